@@ -1,7 +1,7 @@
 // The address, and the browser's entry for it, have the document.
 import { packedData } from "./engine.js";
 import { EMPTY_TOWER } from "./document.js";
-import { lessonOf } from "./lessons.js";
+import { lessonOf } from "./player.js";
 import { documentInHash } from "./links.js";
 import { now } from "./state.js";
 

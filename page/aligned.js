@@ -5,7 +5,10 @@ import { LOOK, answersIn, pageIn } from "./pages.js";
 import { Reading } from "./reading.js";
 import { MOST_VALUES } from "./towers.js";
 
+// how many actions an operation is tried with, one after the other, until it ends
 const LENGTHS = [16, 128, 1024, 4096];
+// so that a whole number of due actions isn't rounded down
+const ROUNDING = 1e-9;
 const fileOf = (tower, steps) => ["tower 2", tower, ...steps].map((it) => `${it}\n`).join("");
 // what a schedule of a tower does, by its history
 async function runOn(ask, tower, steps) {
@@ -25,9 +28,10 @@ class Flight {
   due(step) {
     const before = this.acts.filter((it) => it < step).length;
     const share = before / Math.max(1, this.acts.length);
-    return Math.min(Math.floor(share * this.count + 1e-9), this.count - 1);
+    return Math.min(Math.floor(share * this.count + ROUNDING), this.count - 1);
   }
 }
+// The schedule on the second tower as it is made; `flights`: the operations in flight, by process.
 class Transfer {
   constructor(ask, tower) { Object.assign(this, { ask, tower, steps: [], flights: new Map() }); }
   run(more = []) { return runOn(this.ask, this.tower, [...this.steps, ...more]); }
@@ -57,6 +61,7 @@ class Transfer {
       flight.isOver = lastOf(choice === "0" ? run : await this.run(), process).ended !== null;
     }
   }
+  // brings all operations as far as they are at an operation's beginning or end on the first tower
   async event({ step, isEnd, flight }) {
     for (const other of this.flights.values())
       if (other !== flight) await this.goOn(other, other.due(step));

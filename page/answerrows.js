@@ -1,13 +1,14 @@
 // The panel of all answers as elements: what is asked, what is predicted, and what was found.
 // `acts` are what its buttons do.
 import { counted } from "./labels.js";
+import { FEW_VALUES } from "./measures.js";
 import { between } from "./pages.js";
 import { FEW_LISTS, groupedBy, guessable, hasRoom, keyOf } from "./questions.js";
 import { oddityOf, sizeOf, wordsOf } from "./questions.js";
 import { element } from "./elements.js";
 import { now } from "./state.js";
 
-const MOST_ROWS = 64, FEW_VALUES = 8;
+const MOST_ROWS = 64;
 const NO_SCHEDULE = "No schedule: the search tried every order of these operations' steps, and "
   + "both choices at each hit read, and none ends so. That it misses no answer is proved. Other "
   + "operations may give it.";

@@ -15,6 +15,8 @@ const MOST_SECONDS = 120, ADVICE = "Leave out a process or an operation.";
 const NOTHING = { guesses: [], guessedCount: "", read: null };
 const NOT_FOUND = { lists: null, states: 0, said: "", isSearching: false, shown: "" };
 const panel = { tower: "", question: null, ...NOTHING, ...NOT_FOUND };
+// the page's gestures; the number of the latest search, as older ones count no more; and how often
+// the panel was changed
 let gestures = null, search = 0, drawn = 0;
 // changes what the panel holds, and draws it
 function setPanel(parts) {
@@ -22,6 +24,7 @@ function setPanel(parts) {
   drawn++;
   drawPanel();
 }
+// gives up what was found and guessed, for another question or the same one
 function restart(parts) {
   if (panel.isSearching) stopSearch();
   search++;

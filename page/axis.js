@@ -3,6 +3,7 @@
 
 const NARROW = 3, LEAST_WIDE = 25, MOST_WIDE = 104;
 let axes = 0;
+// `column`: how wide a step is, or a wide one; `edges`: the x of each place, unless all are equal
 export class Axis {
   constructor(column, edges = null) {
     Object.assign(this, { column, edges, key: edges ? `elastic ${axes++}` : String(column) });

@@ -42,7 +42,7 @@ export function leaving(next, way) {
   };
 }
 // what was left last, if Undo takes it up: if nothing was done here yet
-export function backTo() {
+function backTo() {
   const isHere = now.document.lastGesture > 0 && (!leftDocuments.length || isChanged());
   return isHere ? null : leftDocuments.at(-1) || null;
 }

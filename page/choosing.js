@@ -3,7 +3,7 @@ import { packedContents } from "./engine.js";
 import { counted } from "./labels.js";
 import { MOST_BITS, TOWERS, sizeFault } from "./towers.js";
 import { EMPTY_TOWER } from "./document.js";
-import { lessonOf } from "./lessons.js";
+import { lessonOf } from "./player.js";
 import { putKept } from "./opened.js";
 import { ask } from "./acting.js";
 import { element, one } from "./elements.js";

@@ -3,9 +3,10 @@
 import { hasSearch } from "./engine.js";
 import { flipped } from "./document.js";
 import { TYPED_STEP } from "./grammar.js";
+import { FEW_VALUES } from "./measures.js";
 import { between } from "./pages.js";
 import { reasonOf } from "./reading.js";
-import { refusalReason } from "./refused.js";
+import { refusalReason } from "./operationrefusals.js";
 import { comparison } from "./picture.js";
 import { pickedRead, storyOfRead } from "./whys.js";
 import { withWords } from "./words.js";
@@ -13,7 +14,6 @@ import { isSaying, say } from "./acting.js";
 import { element, one, putIfChanged } from "./elements.js";
 import { here, now, runHere, setView } from "./state.js";
 
-export const FEW_VALUES = 8;
 const STEP_WORDS = "A step is w P V (process P writes V), r P (P reads), g P C (P's next action, " +
   "with choice C) or x P (P stops)";
 export const ACTIONS = { ws: "starts to write bit", we: "ends its write of bit",

@@ -8,7 +8,7 @@ const DEPTH_NAMES = { stamped: "+ registers", unary: "+ numbers", regular: "+ bi
   copies: "+ copies" };
 // the choice for all processes, that for each process whose bars were clicked, and for each fold
 const chosen = { depth: null, byProcess: new Map(), folds: new Map() };
-export const deepest = () => layersOf(now.model.shape).length;
+const deepest = () => layersOf(now.model.shape).length;
 // of a tower of few bits all layers are drawn at first, else one
 export function depthForAll() {
   const { cells } = now.model.shape, first = cells <= FEW_CELLS ? deepest() : 1;

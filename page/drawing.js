@@ -6,11 +6,13 @@ import { bitStrips, groupsOf, wordStrip } from "./bitrows.js";
 import { SIGNS } from "./labels.js";
 import { Lanes } from "./lanes.js";
 import { layersOf } from "./layers.js";
-import { TICK_WORDS, TINY, WORDY } from "./measures.js";
+import { TICK_WORDS, TINY, TREE_ROW, WORDY } from "./measures.js";
 import { between } from "./pages.js";
 import { rounded, shape, textAt, titled, widthOf } from "./shapes.js";
 
-const TREE = 27, CHIP = 34, FLAGS = 20;
+const CHIP = 34, FLAGS = 20;
+// how wide a letter of a step's text is
+const CHIP_LETTER = 7.9;
 export class Drawing {
   // The columns from a step to another are drawn, of a tower of that shape. `depthOf` is how many
   // layers are drawn below a process's operations.
@@ -46,14 +48,14 @@ export class Drawing {
   tree(branches, readings) {
     const labels = [], drawn = [];
     for (const branch of branches) {
-      const y = branch.index * TREE + TREE / 2 + 2;
+      const y = branch.index * TREE_ROW + TREE_ROW / 2 + 2;
       drawn.push(...this.stem(branch, y), ...this.values(branch, readings.get(branch.name), y));
       labels.push(textAt(branch.name, 10, y + 5, "name", { "data-select": branch.name }));
     }
-    return this.strip("tree", labels, drawn, branches.length * TREE + 6);
+    return this.strip("tree", labels, drawn, branches.length * TREE_ROW + 6);
   }
   stem({ index, parent, shared, length }, y) {
-    const x = this.left(shared), above = shared ? y - TREE * (index - parent.index) : y;
+    const x = this.left(shared), above = shared ? y - TREE_ROW * (index - parent.index) : y;
     const path = shared ? `M${x - 12} ${above}l12 12V${y - 12}l12 12` : `M0 ${y}`;
     const d = `${path}H${Math.max(this.left(length), x + 12)}`;
     const first = Math.max(shared, this.from), last = Math.min(length, this.to);
@@ -105,7 +107,7 @@ export class Drawing {
     const [what, process, number] = words.split(" "), short = what === "g"
       ? (isChosen ? `${process}\u25c6${number}` : `p${process}`) : `${what}${process}`;
     const shown = isWide ? words : column >= TINY ? short : "";
-    const isTight = isWide && shown.length * 7.9 > room;
+    const isTight = isWide && shown.length * CHIP_LETTER > room;
     const squeezed = isTight && { textLength: room, lengthAdjust: "spacingAndGlyphs" };
     const box = { x: this.left(step) + 1.5, y: 2, rx: isWide ? 5 : 1, height: CHIP - 6 };
     return [shape("rect", { ...box, width: Math.max(1, column - 3) }),

@@ -20,6 +20,7 @@ function joined(parts) {
   return made;
 }
 const SVG = "http://www.w3.org/2000/svg";
+// a shape as an element of the page
 export function mounted({ name, attributes, children }) {
   const made = document.createElementNS(SVG, name);
   for (const [key, value] of Object.entries(attributes)) made.setAttribute(key, value);

@@ -13,7 +13,7 @@ import { keepDocument, leaveAddress } from "./address.js";
 import { chooseOpen, chooseTower } from "./choosing.js";
 import { SESSIONS } from "./grammar.js";
 import { remember, remembered } from "./kept.js";
-import { lessonOf, lessonStep, putLesson } from "./lessons.js";
+import { lessonOf, lessonStep, putLesson } from "./player.js";
 import { Model, stepsToEnd } from "./model.js";
 import { documentOf, textsOf } from "./opened.js";
 import { light, shownBranches } from "./picture.js";
@@ -21,13 +21,15 @@ import { present, unfold } from "./room.js";
 import { openShare } from "./share.js";
 import { here, now, setNow, setView } from "./state.js";
 import { leaveStudy, putStudy } from "./study.js";
-import { task } from "./task.js";
+import { task } from "./taskstrip.js";
 import { startLine, startOf, withHeadLine } from "./tasks.js";
 import { forgetTyped, putTyped, showTab } from "./text.js";
 import { forgetViewing, viewing } from "./viewing.js";
 import { drawWhole, putSpent } from "./whole.js";
 import { lookIntoRead } from "./whys.js";
 
+// with how many steps an operation is tried, until it ends; and the most steps that are made again
+// after another choice
 const TRIES = [64, 1024, 16384], MOST_STEPS_ON_A_BRANCH = 4000;
 export const draw = (isFollowing) => drawWhole(gestures, taskGestures, isFollowing);
 // Changes the document, but for a gesture that is refused or finds nothing: no line of it stays in
@@ -117,12 +119,13 @@ export function study(folder, given) {
   putWelcome(true);
   putStudy(folder, open, { ...given, ask: askAll });
 }
-function again({ document: { tower, script, undone }, ...more }, way) {
+// opens a document again that another one took the place of
+function openAgain({ document: { tower, script, undone }, ...more }, way) {
   return begin(tower, script, { ...more, way, undone });
 }
 function undo() {
   const was = takeBack();
-  if (was) return again(was, "back");
+  if (was) return openAgain(was, "back");
   return act(() => {
     clear();
     return now.document.lastGesture && change(now.document.undo());
@@ -130,7 +133,7 @@ function undo() {
 }
 function redo() {
   const was = takeForward();
-  if (was) return again(was, "forward");
+  if (was) return openAgain(was, "forward");
   return act(() => {
     clear();
     return now.document.undone.length && change(now.document.redo());
@@ -186,6 +189,7 @@ export const panelNext = (way) => move(({ name, place }) => {
   const drawn = shownBranches();
   return { name: drawn[drawn.findIndex((it) => it.name === name) + way]?.name, place };
 });
+// a name for a branch that none has: the wish, or that with a number
 function freeName(wish) {
   const numbered = [...now.model.branches.keys()].map((it) => `${wish}${it + 2}`);
   return [wish, ...numbered].find((it) => !now.model.branch(it));

@@ -103,7 +103,7 @@ export function looksFor(goals, model) {
     goal.groups.flatMap((it) => looksOfGroup(it, branch))));
 }
 // the operations of a kind: each with its process, and its first and last event
-function operationsIn(events, kind) {
+function operationsOfKind(events, kind) {
   const live = new Map(), found = [];
   events.forEach(({ process, words }, index) => {
     const [what, of] = words.split(" "), it = live.get(process);
@@ -141,7 +141,7 @@ function isMetOn({ operation, clauses }, branch, model) {
   if (!operation) return clauses.every((it, index) => holds(it, given[index]));
   const { events = [] } = model.page("history", branch.name, branch.length) || {};
   const byStep = given.map(numbered);
-  return operationsIn(events, operation).some((of) => clauses.every((it, index) =>
+  return operationsOfKind(events, operation).some((of) => clauses.every((it, index) =>
     holds(it, linesOf(of, events, it, byStep[index]))));
 }
 // whether what the model has meets a goal; the pages must be there

@@ -2,6 +2,7 @@
 // the sentence names the page and quotes the words.
 const owned = (process, thing) => (process ? `${process}'s ${thing}` : `a ${thing}`);
 const noneOf = (process, thing) => `no ${thing}${process ? ` of ${process}` : ""}`;
+// a sentence, and that it isn't so
 const pair = (is, isnt) => ({ is, isnt });
 function verdictWords(process, value, verdict) {
   const says = value ? `gives ${value}${verdict ? `, ${verdict}` : ""}` : `is ${verdict}`;
@@ -22,6 +23,7 @@ function refusedWords(process, tower) {
   return pair(`an operation${process ? ` of ${process}` : ""} is refused${why}`,
     `${noneOf(process, "operation")} is refused${why}`);
 }
+// any process, or one that is named
 const P = "(?:(p[0-9]) )?";
 const FORMS = [
   ["verdict", `${P}([0-9]+)(?: (fresh|overlap|stray))?`, verdictWords],

@@ -1,6 +1,7 @@
 // What is kept: documents that another one replaced, and small notes. They are kept in memory, and
 // in the browser if it lets a page keep them; `forget` removes all of them.
-const DOCUMENTS = "towerbench.recent", NOTES = "towerbench.note ", MOST = 12, MOST_TEXT = 100000;
+const DOCUMENTS = "towerbench.recent", NOTES = "towerbench.note ";
+const MOST_DOCUMENTS = 12, MOST_TEXT = 100000;
 const memory = new Map();
 function stored(key) {
   try {
@@ -29,7 +30,7 @@ export function storeDocument({ tower, script, title, when }, isOpen = false) {
   const isOlder = (it) => it.script === script || (isOpen && script.startsWith(it.script));
   const others = keptDocuments().filter((it) => it.tower !== tower || !isOlder(it));
   const all = [{ tower, script, title, when }, ...others];
-  store(DOCUMENTS, JSON.stringify(all.slice(0, MOST)));
+  store(DOCUMENTS, JSON.stringify(all.slice(0, MOST_DOCUMENTS)));
 }
 const isOurs = (key) => key === DOCUMENTS || key.startsWith(NOTES);
 // forgets the documents, names, predictions and what is solved, on this computer

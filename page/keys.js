@@ -1,19 +1,21 @@
 // Keys: which gesture each does.
 import { say } from "./acting.js";
-import { FEW_VALUES, closeMenu, openMenu, processesHere, putDeck } from "./deck.js";
+import { closeMenu, openMenu, processesHere, putDeck } from "./deck.js";
 import { flipped } from "./document.js";
 import { one } from "./elements.js";
 import { saveAs } from "./files.js";
 import { commands, gestures, moveBy, nextSession } from "./gestures.js";
 import { panelNext, pick, pickNext, views } from "./gestures.js";
+import { FEW_VALUES } from "./measures.js";
 import { isPresenting } from "./room.js";
 import { here, now, setView } from "./state.js";
 import { isStudying } from "./study.js";
 
+// more steps than any branch has
 const FAR = 1e9;
 // a step of the process that keys go to; a write waits for its value, and the end of a hit read for
 // its choice
-function key(step) {
+function keyStep(step) {
   const p = now.view.process, it = processesHere().find((each) => each.number === p);
   const isWrite = step === "w", isStep = step === "g", { values } = now.model.shape;
   if (isWrite && values > FEW_VALUES) return one(`[data-key="p${p} value"]`)?.focus();
@@ -23,6 +25,7 @@ function key(step) {
   say(isWrite ? `p${p} writes which value?` : `p${p}'s read: give 0 or 1?`, "awaits");
   return putDeck(gestures);
 }
+// a value or a choice that a step waits for, or else the number of the process that keys go to
 function digit(number) {
   const { awaiting, process } = now.view, p = Number(number);
   if (awaiting) return gestures.put(process, `${awaiting} ${process} ${number}`);
@@ -37,7 +40,7 @@ const keys = {
   ArrowLeft: (count) => moveBy(-count), ArrowRight: (count) => moveBy(count),
   Home: () => moveBy(-FAR), End: () => moveBy(FAR),
   ArrowUp: () => panelNext(-1), ArrowDown: () => panelNext(1),
-  w: () => key("w"), r: () => key("r"), g: () => key("g"), x: () => key("x"),
+  w: () => keyStep("w"), r: () => keyStep("r"), g: () => keyStep("g"), x: () => keyStep("x"),
   e: () => gestures.end(now.view.process), f: () => gestures.fork(),
   d: atBranch("detach"), j: atBranch("own"), m: atBranch("compare"),
   a: atBranch("alone"), D: atBranch("drop"),

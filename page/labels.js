@@ -148,7 +148,7 @@ function passedWords(facts, it) {
   return words.length ? `skipped: ${words.join(", ")} already` : "";
 }
 // bits as runs of neighbours
-export function bitNames(bits) {
+function bitNames(bits) {
   const sorted = [...bits].sort((a, b) => a - b), runs = [];
   for (const it of sorted)
     if (runs.at(-1)?.[1] === it - 1) runs.at(-1)[1] = it;

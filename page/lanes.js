@@ -5,7 +5,9 @@ import { NEST, nestedBars } from "./nests.js";
 import { between } from "./pages.js";
 import { rounded, shape, sized, textAt, titled, widthOf } from "./shapes.js";
 
-const TICKS = 21, TAG = 24, LONG_BITS = 16, SHORT_BITS = 10, TEXT_EVERY = 832, TEXT_GAP = 240;
+// how high a row of ticks and a verdict are, how far below its tick a long number of a bit is, and
+// how many bits have short ones; how far apart words on a long bar are, and the gap between them
+const TICKS = 21, VERDICT = 24, LONG_BITS = 16, SHORT_BITS = 10, TEXT_EVERY = 832, TEXT_GAP = 240;
 // the sizes of letters on an operation's bar, and how drawing.css names them
 const OP_LOOKS = { 17: "op", 15: "op small", 13: "op less" }, OP_SIZES = [17, 15, 13];
 // The lanes of one reading. `shared`: how many steps are drawn above already, on another branch.
@@ -30,7 +32,7 @@ export class Lanes {
     const { drawing: { tower, hasTexts }, reading } = this, tops = new Map();
     let y = 2;
     for (const process of reading.processes) {
-      y += tower.reads(process) || tower.isRefusing ? TAG + 2 : 4;
+      y += tower.reads(process) || tower.isRefusing ? VERDICT + 2 : 4;
       tops.set(process, y);
       y += BAR + 8 + this.nestHeight(process) + (hasTexts ? TICKS : 4);
       y += LONG_BITS * this.hasLongNumbers(process);
@@ -101,7 +103,7 @@ export class Lanes {
     const words = `${it.value} ${SIGNS[it.verdict] || ""} ${it.verdict}`.trim();
     const first = Math.max(reading.from, it.ended >= shared ? shared : 0);
     const least = drawing.left(first) + widthOf(words) + 10;
-    return [drawing.verdict(it, words, Math.max(end, least), top - TAG, TAG)];
+    return [drawing.verdict(it, words, Math.max(end, least), top - VERDICT, VERDICT)];
   }
   // what an operation does and gave, again and again on a long bar, but not over a diamond
   barTexts(it, root, [begin, end, top]) {

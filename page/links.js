@@ -1,10 +1,12 @@
 // A document as what follows an address: deflated JSON in base64url. Deflate has a checksum, so a
 // link that lost or changed a letter is known.
+// how a hash of a document begins, and how long it may be, and the document too
 const MARK = "#z", MOST = 4000000;
 const LESSON = /^#lesson-(\d+)$/;
-export const DAMAGED = "This link is damaged: a part of it is missing or changed, so its " +
+const DAMAGED = "This link is damaged: a part of it is missing or changed, so its " +
   "document can't be opened. Ask for it again, or copy all of it.";
 // read part by part, as Firefox reports on its console if all of a damaged stream is asked for
+// what a stream makes of bytes
 async function through(bytes, { writable, readable }) {
   const writer = writable.getWriter(), reader = readable.getReader(), parts = [];
   for (const done of [writer.write(bytes), writer.close()]) done.catch(() => null);

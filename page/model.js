@@ -6,7 +6,7 @@ import { grown } from "./grown.js";
 import { looksAfterEdits, looksAfterMove } from "./guesses.js";
 import { Codes } from "./layers.js";
 import { LOOK, answersIn, between, cursorIn, firstDifference, forestIn } from "./pages.js";
-import { pageIn, pairedAnswers, sharedCells } from "./pages.js";
+import { pageIn, pairedAnswers, quoted, sharedCells } from "./pages.js";
 import { faultInWords, refusalOf } from "./refusals.js";
 import { shapeOf } from "./towers.js";
 
@@ -14,14 +14,14 @@ const EVERY_SESSION = between(0, SESSIONS);
 // at most this many lines of pages are kept
 const MOST_KEPT = 2000000;
 // a file with more steps than the program takes by default is run with a higher limit
-const ROOM = 65536, MORE_ROOM = ["--cells", "16777216"];
+const USUAL_CELLS = 65536, MORE_CELLS = ["--cells", "16777216"];
 // how many pages were asked for, in how many runs, and how many lines these wrote in all
 export const spent = { pages: 0, runs: 0, lines: 0 };
 const countLines = (text) => text.split("\n").length - 1;
 // `isSaved` asks for the branches' next version too, which takes time if the document is large
 async function answered(ask, tower, script, isSaved = false) {
-  const isBig = tower.length > ROOM && countLines(tower) - 2 > ROOM;
-  const made = await ask(tower, script, { isSaved, ...(isBig ? { words: MORE_ROOM } : {}) });
+  const isBig = tower.length > USUAL_CELLS && countLines(tower) - 2 > USUAL_CELLS;
+  const made = await ask(tower, script, { isSaved, ...(isBig ? { words: MORE_CELLS } : {}) });
   spent.runs++;
   spent.lines += countLines(made.output) + countLines(made.bench);
   if (made.fault) throw new Error(made.fault);
@@ -60,9 +60,9 @@ export class Model {
   }
   constructor(document, ask, { bench, tower, branches }, pages) {
     const shape = shapeOf(tower), codes = new Codes(shape);
-    // `sought`: the looks that the picture asks for
+    // `sought`: the looks that the picture asks for; `faults`: sentences on looks without a page
     Object.assign(this, { document, ask, bench, tower, branches, pages, shape, codes });
-    Object.assign(this, { notes: [], sought: [] });
+    Object.assign(this, { faults: [], sought: [] });
     this.byName = new Map(branches.map((it) => [it.name, it]));
   }
   // `found`: the answers to the document's lines, to each session's `cursor`, and to `branches`
@@ -100,6 +100,7 @@ export class Model {
     return branch && { name: branch.name, place: Math.min(line.place, branch.length) };
   }
   othersThan(branch) { return this.branches.filter((it) => it !== branch); }
+  // the other branches that hold a branch's step too
   sharers(branch, index) {
     return this.othersThan(branch).filter((it) => sharedCells(it, branch) > index);
   }
@@ -116,6 +117,7 @@ export class Model {
       if (Number(place) <= equal.get(name)) this.pages.set(key, page);
     }
   }
+  // how many first steps of a branch are equal in both models; -1: it is gone
   equalSteps(old) {
     const branch = this.branch(old.name);
     return branch ? firstDifference(old, branch, 0) : -1;
@@ -135,9 +137,9 @@ export class Model {
     const script = linesOf(wanted.map((it) => `${LOOK} ${it}`));
     const found = answersIn((await answered(this.ask, this.bench, script)).output);
     wanted.forEach((look, index) => {
-      const words = found[index]?.first.slice(0, 60) || "nothing";
+      const words = quoted(found[index]?.first || "nothing");
       if (!this.take(look, found[index]))
-        this.notes.push(`To the look ${look} the program answered ${words}`);
+        this.faults.push(`To the look ${look} the program answered ${words}`);
     });
   }
   // keeps the page that answers a look, and says whether there is one

@@ -3,7 +3,7 @@
 import { framesIn } from "./frames.js";
 import { NAME, NUMBER, STEP, whole } from "./grammar.js";
 
-// the session that asks for pages: none that can join
+// the session that asks for pages: none that can join, and none that a script uses
 export const LOOK = 999999999;
 const NEXT_ACTION = `next (ws|we|rs|re) (${NUMBER})`;
 const PROCESS = whole(`p([0-9]) (idle|read|write (${NUMBER}))(?: (stopped)| ${NEXT_ACTION})?`);
@@ -18,6 +18,9 @@ const VERDICT = whole(`(${NUMBER} p[0-9] ${NUMBER}) (fresh|overlap|stray)`);
 const UNDEFINED = "undefined for matrix";
 const STEP_LINE = whole(STEP), BRANCH = whole(`branch (${NAME}) (${NUMBER}) (${NUMBER})`);
 const CURSOR = whole(`${NUMBER}: cursor (\\S+) (${NUMBER}) breaks ${NUMBER}`);
+// the beginning of a line, for a sentence that quotes it
+const MOST_QUOTED = 60;
+export const quoted = (line) => line.slice(0, MOST_QUOTED);
 export const between = (from, to) =>
   [...Array(Math.max(0, to - from)).keys()].map((it) => it + from);
 // each answer, its first line and the others; a last line that is cut off isn't one
@@ -58,7 +61,7 @@ class Branch {
 export function forestIn(bench) {
   const [, tower = "", ...lines] = bench.split("\n").slice(0, -1), branches = [];
   for (const line of lines) {
-    const match = line.startsWith("b") && BRANCH.exec(line), begin = line.slice(0, 60);
+    const match = line.startsWith("b") && BRANCH.exec(line), begin = quoted(line);
     if (match) {
       const shared = Number(match[3]), parent = shared ? branches[match[2]] : null;
       if (shared > (parent ? parent.length : 0))

@@ -5,14 +5,16 @@ import { axisLooks, findColumns, lengthOf, putScale } from "./columns.js";
 import { depthKey, depthOf, isFoldOpen, putDepths } from "./depths.js";
 import { Drawing } from "./drawing.js";
 import { layersOf } from "./layers.js";
-import { FEW_CELLS, LABEL, MARGIN } from "./measures.js";
+import { FEW_CELLS, LABEL, MARGIN, TREE_ROW } from "./measures.js";
 import { Reading, overlappedWrites } from "./reading.js";
 import { aboutBranch, hatch, looksOf, readInside } from "./still.js";
 import { lookIntoRead, pickedRead, storyOfRead } from "./whys.js";
 import { all, element, mounted, one, putIfChanged, putParts } from "./elements.js";
 import { here, now, setNow, setView } from "./state.js";
 
-const SIGHT = 300, MOST_TREE = 12, TREE_ROW = 27, LEAST_ROOM = 300;
+// how far above and below what is in sight panels are drawn, how many branches' tree is unfolded at
+// first, and how wide the picture is at least
+const SIGHT = 300, MOST_TREE = 12, LEAST_ROOM = 300;
 const scroll = one("#scroll"), heights = new Map();
 one("#patterns").append(mounted(hatch()));
 // the branches that are drawn one below the other, as the page's choice has them
@@ -69,7 +71,9 @@ function branchesOfTree() {
   if (branches.length < 2 || (branches.length > MOST_TREE && !(isOpen && dataset.many))) return [];
   return branches.filter((it) => isInSight(it.index * TREE_ROW, (it.index + 1) * TREE_ROW));
 }
+// the columns of a range that a branch has
 const cut = ({ from, to }, branch) => [from, to].map((it) => Math.min(it, branch.length));
+// finds which columns and panels are in sight, asks for the pages that these take, and reads them
 export async function look(isFollowing) {
   const { model } = now, { name, place } = here(), tree = branchesOfTree();
   const ofAxis = axisLooks(shownBranches(), roomOf());
@@ -108,6 +112,7 @@ function readAll(tree, panels, range) {
     readings.set(it.name, Object.assign(reading, { kinds }));
   }
 }
+// whether something is in sight that isn't drawn yet
 export function isMissing() {
   const { from, to, axis } = now.range, { scrollLeft, clientWidth } = scroll;
   const last = axis.place(scrollLeft + clientWidth - LABEL), end = lengthOf(now.model.branches);
@@ -179,6 +184,7 @@ function putPanel(section, branch, drawing, frame, { asked, groups, above, diffe
   }
   putParts(section, parts);
 }
+// the steps that differ from the branch that this one is compared with
 function differenceOf(branch, drawn) {
   const other = isComparing() && drawn.find((it) => it !== branch);
   const [from, to] = cut(now.range, branch);
@@ -255,6 +261,7 @@ function putChoices() {
     choices.map(([value, words]) => element("option", { value }, words)));
   Object.assign(one("#show"), { value: show, hidden: branches.length < 2 });
 }
+// what two branches that are compared share, in a sentence
 export function comparison() {
   if (!isComparing()) return "";
   const [a, b] = shownBranches(), shared = sharedCells(a, b), at = firstDifference(a, b);
@@ -264,6 +271,7 @@ export function comparison() {
   if (at >= a.length && at >= b.length) return `${said}, and all their steps are equal.`;
   return `${said}; the first that differs is step ${at}: ${on(a)}, ${on(b)}.`;
 }
+// lights the picked read, the writes that it overlaps, and what its sentence names
 const LIGHTS = ["lit", "dim", "picked", "lifted", "source"];
 export function light() {
   const { picked } = now.view, read = pickedRead();

@@ -1,5 +1,6 @@
 // A question about all answers: which operations each process makes; its text, as the program of
 // all answers takes it; what that program prints, as data; and what is predicted. No browser.
+import { FEW_VALUES } from "./measures.js";
 import { between } from "./pages.js";
 
 // how many lists are shown one by one, and guessed one by one
@@ -9,9 +10,10 @@ const MOST_OPERATIONS = 6;
 export const LIMITS = [16384, 131072, 1048576];
 // `operations`: of each process its operations, as "r" or "w V"; `stops`: which processes may stop;
 // `after`: [P, I, Q, J], operation I of P begins only after operation J of Q has ended
-export const emptyQuestion = (processes) =>
+const emptyQuestion = (processes) =>
   ({ operations: Array.from({ length: processes }, () => []), stops: [], after: [] });
 const isRead = (operation) => operation === "r";
+// the value that a tower holds before any write
 function initialOf(tower) {
   const [kind, ...numbers] = tower.split(" ");
   return ["stamped", "matrix"].includes(kind) ? 0 : Number(numbers.at(-1));
@@ -22,7 +24,7 @@ export function firstQuestion({ processes, values, reads, side }, tower) {
   question.operations[0].push(`w ${initial === 0 ? 1 : 0}`);
   const reader = between(0, processes).find((it) => it !== 0 && reads(it));
   if (side) question.operations[1].push("w 0");
-  question.operations[reader].push("r", ...(side || values > 8 ? [] : ["r"]));
+  question.operations[reader].push("r", ...(side || values > FEW_VALUES ? [] : ["r"]));
   return question;
 }
 export const hasRoom = ({ operations }, process) => operations[process].length < MOST_OPERATIONS;

@@ -11,10 +11,13 @@ export function shape(name, given = {}, ...children) {
 export const textAt = (words, x, y, kind, given) =>
   shape("text", { x, y, class: kind, ...given }, String(words));
 export const titled = (words) => shape("title", {}, words);
-export const widthOf = (words, size = 15) => words.length * size * 0.62;
+// About how wide a letter is, as a part of its size; words on a bar may be a little tighter, and
+// keep off its ends.
+const LETTER = 0.62, TIGHT = 0.92, BAR_ENDS = 7;
+export const widthOf = (words, size = 15) => words.length * size * LETTER;
 // the first of several words that fits a width, in letters of a size
 export const fitting = (all, width, size) =>
-  all.find((it) => widthOf(it, size * 0.92) + 7 <= width);
+  all.find((it) => widthOf(it, size * TIGHT) + BAR_ENDS <= width);
 // the first of several words that fits a width in the last of some sizes, which is the least one,
 // and the first size in which it fits; words that say more are taken before larger letters
 export function sized(all, width, sizes) {

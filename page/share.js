@@ -14,14 +14,14 @@ const field = (name) => one(`#share-${name}`), valueOf = (name) => field(name).v
 const GOAL = /^(?:# ?)?goal(?: [0-9]+)?: (.*)$/;
 const DATA = /^(?:# ?)?(?:goal|ask|option)(?: [0-9]{1,3})?: ./;
 const isAsked = (it) => /^# (goal|ask|option)\b/.test(it);
-const rows = (text) => text.split("\n").map((it) => it.trim()).filter(Boolean);
+const typedLines = (text) => text.split("\n").map((it) => it.trim()).filter(Boolean);
 // the address of the page on the web, which is typed once
 function baseAddress() {
   const own = location.protocol === "file:" ? "" : location.href.split("#")[0];
   return remembered("base") || packedData().base || own;
 }
 // the page with a document inside, which opens by a double click
-export function pageWith(document, base) {
+function pageWith(document, base) {
   const data = JSON.stringify({ ...packedData(), document, base }).replace(/</g, "\\u003c");
   const place = /(<script type="application\/json" id="data">)[^]*?(<\/script>)/;
   return pageSource.replace(place, (_, begin, end) => begin + data + end);
@@ -30,8 +30,8 @@ export function pageWith(document, base) {
 function scriptWith({ text, data, name }, lines, isBare) {
   const head = headOf(lines), begin = lines.slice(0, head), rest = lines.slice(head);
   const kept = (kind) => begin.filter((it) => it.startsWith(`# ${kind}`));
-  const asked = rows(text).map((it) => `# ${it}`);
-  const goals = rows(data).map((it) => `# ${it.replace(/^# ?/, "")}`);
+  const asked = typedLines(text).map((it) => `# ${it}`);
+  const goals = typedLines(data).map((it) => `# ${it.replace(/^# ?/, "")}`);
   const whose = name ? [`# student: ${name}`] : [];
   const answered = isBare ? [] : [...kept("start:"), ...kept("predicted"), ...whose];
   const done = isBare ? ["0 join"] : rest.filter((it) => !isData(it));
@@ -65,11 +65,12 @@ const keepDraft = () => { draft = { key: draftKey(), ...fields() }; };
 // what is typed, judged at once
 async function check() {
   const { model } = now, base = valueOf("base");
-  const goals = rows(valueOf("data")).map((it) => GOAL.exec(it)?.[1]).filter(Boolean).map(goalIn);
+  const data = typedLines(valueOf("data"));
+  const goals = data.map((it) => GOAL.exec(it)?.[1]).filter(Boolean).map(goalIn);
   await model.look(looksFor(goals, model));
   const metWords = (it) => (isMet(it, model) ? "\u2713 met now:" : "\u25cb not met now:");
   const signOf = (it) => (it.fault ? "!" : metWords(it));
-  const unread = rows(valueOf("data")).filter((it) => !DATA.test(it));
+  const unread = data.filter((it) => !DATA.test(it));
   field("goals").replaceChildren(...goals.map((it) => element("li",
     { class: it.fault ? "wrong" : isMet(it, model) && "met" }, `${signOf(it)} ${inWords(it)}`)),
   ...unread.map((it) => element("li", { class: "wrong" },
@@ -113,7 +114,7 @@ function watch(dialog, take) {
 }
 function ideaButton(it) {
   const add = () => {
-    field("data").value = [...rows(valueOf("data")), it].join("\n");
+    field("data").value = [...typedLines(valueOf("data")), it].join("\n");
     keepDraft();
     check();
   };

@@ -12,6 +12,7 @@ export const now = {
 };
 export const setNow = (parts) => Object.assign(now, parts);
 export const setView = (parts) => Object.assign(now.view, parts);
+// where the page's session is: its branch and its place (`placeOf` of model.js)
 export const here = () => now.model.placeOf(now.who);
 // the run of the branch where the cursor is, as far as it is read
 export const runHere = () => now.readings.get(here().name).run;

@@ -12,7 +12,7 @@ import { shape } from "./shapes.js";
 const MOST_STILL = 400, GAP = 16;
 const ESCAPED = { "&": "&#38;", "<": "&#60;", ">": "&#62;", '"': "&#34;" };
 const escaped = (words) => String(words).replace(/[&<>"]/g, (it) => ESCAPED[it]);
-export function svgText({ name, attributes, children }) {
+function svgText({ name, attributes, children }) {
   const given = Object.entries(attributes).map(([key, value]) => ` ${key}="${escaped(value)}"`);
   const inside = children.map((it) => (typeof it === "string" ? escaped(it) : svgText(it)));
   return `<${name}${given.join("")}>${inside.join("")}</${name}>`;

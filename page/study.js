@@ -1,5 +1,6 @@
-// A whole lesson in the page: its text, which tools/page takes from the lesson's Markdown, with
+// A whole lesson to read: its text, which tools/page takes from the lesson's Markdown, with
 // pictures that can be played, a prediction before them, and exercises with a button to begin each.
+// player.js plays a script of it.
 import { hasSearch, packedContents } from "./engine.js";
 import { EMPTY_TOWER } from "./document.js";
 import { allLessons, exerciseDocument, hashOfLesson, isSolved, partOf } from "./exercises.js";
@@ -11,13 +12,16 @@ import { withWords } from "./words.js";
 import { say } from "./acting.js";
 import { element, one } from "./elements.js";
 
+// the folder of the lesson that is shown, or nothing
 let studied = "";
 export const isStudying = () => studied !== "";
-function answersOf(article) {
+// the part of a lesson's text that is folded away
+function foldedAnswers(article) {
   return [...article.children].find((it) => it.localName === "details");
 }
+// shows what reads give, and the reader's prediction next to the answers
 function uncover(article, words) {
-  const answers = answersOf(article);
+  const answers = foldedAnswers(article);
   article.classList.remove("covered");
   answers?.querySelector(".predicted")?.remove();
   if (!words) return;
@@ -60,14 +64,15 @@ function exerciseRow(lesson, exercise, begin) {
   const solved = isSolved(lesson, exercise) && element("b", { class: "met" }, "\u2713 solved");
   return element("div", { class: "begin" }, parts.map(button), solved);
 }
-function listOf(lessons, folder) {
+function lessonButtons(lessons, folder) {
   const sign = (it) => (it.exercises.every((each) => isSolved(it, each)) ? " \u2713" : "");
   const current = (it) => it.folder === folder && "page";
   const given = (it) => ({ "data-study": it.folder, "aria-current": current(it) });
   return [element("h2", {}, "Lessons"),
     ...lessons.map((it) => element("button", given(it), it.title + sign(it)))];
 }
-function textOf(lesson, begin) {
+// puts a lesson's text, with the question, the buttons of its exercises and words to point at
+function putArticle(lesson, begin) {
   const article = one("#study-text"), text = packedContents.texts[lesson.folder];
   article.replaceChildren(...new DOMParser().parseFromString(text, "text/html").body.childNodes);
   const isQuestion = (it) => it.firstChild?.textContent === "Question.";
@@ -89,7 +94,8 @@ function putAsks(code, { parts }, ask) {
     onclick: () => ask(`tower 2\n${line}\n`, code.textContent) }, `Ask on ${line}`);
   code.closest("p").append(element("span", { class: "begin asks" }, taught.map(button)));
 }
-function lastRow(lessons, lesson) {
+// the button that opens the lesson after this one
+function nextLessonRow(lessons, lesson) {
   const next = lessons[lessons.indexOf(lesson) + 1];
   const button = next && element("button", { class: "big", "data-study": next.folder },
     `Next lesson: ${next.title} \u25b6`);
@@ -108,11 +114,11 @@ export function putStudy(folder, begin, { isAnswered = false, ask } = {}) {
   if (!lesson) return;
   studied = folder;
   setLessonHash(hashOfLesson(lesson));
-  const article = textOf(lesson, begin), answers = answersOf(article);
-  one("#study-list").replaceChildren(...listOf(lessons, folder));
+  const article = putArticle(lesson, begin), answers = foldedAnswers(article);
+  one("#study-list").replaceChildren(...lessonButtons(lessons, folder));
   for (const it of hasSearch() ? article.querySelectorAll("code") : [])
     if (it.textContent.startsWith("process ")) putAsks(it, lesson, ask);
-  article.append(lastRow(lessons, lesson));
+  article.append(nextLessonRow(lessons, lesson));
   document.body.classList.add("studying");
   one("#study").hidden = false;
   // on a phone the list is one row

@@ -11,8 +11,9 @@ import { all, element, one, putIfChanged } from "./elements.js";
 import { here, now } from "./state.js";
 
 const LONG = 900, LONG_SCRIPT = 40000, PAUSE = 400, LINE_HEIGHT = 20;
-const MOST_NOTES = 20, MOST_REFUSALS = 50, MOST_MARKED = 1000;
+const MOST_FAULTS = 20, MOST_REFUSALS = 50, MOST_MARKED = 1000;
 const script = one("#script"), file = one("#file");
+// the timer of text that is being typed; 0: none is; -1: it wasn't taken, and stays in the editor
 let typing = 0;
 const isOpen = (name) => !one(`#${name}`).hidden;
 // the pages at the cursor; what differs from the place before is marked
@@ -23,15 +24,15 @@ function putPages() {
   const linesAt = (kind, at) => pageAt(kind, at)?.lines || [];
   const pages = ["state", "pending", "bits"].map((kind) =>
     ({ kind, lines: linesAt(kind, place), was: linesAt(kind, place - 1) }));
-  const ofReadings = [...readings.values()].flatMap((it) => it.notes);
-  const notes = [...model.notes, ...ofReadings].slice(0, MOST_NOTES);
+  const ofReadings = [...readings.values()].flatMap((it) => it.faults);
+  const faults = [...model.faults, ...ofReadings].slice(0, MOST_FAULTS);
   const step = () => `step ${place - 1}, just made: ${branch.step(place - 1)}`;
-  const held = JSON.stringify([name, place, length, events, pages, notes]);
+  const held = JSON.stringify([name, place, length, events, pages, faults]);
   putIfChanged(one("#here"), held, () => [
     memoryCard(name, place),
     place && element("h3", {}, step()), element("pre", {}, events.join("\n")),
     programPages(pages.map((it) => programPage(it, `${name} ${place} of ${length}`))),
-    ...notes.map((it) => element("p", { class: "wrong" }, it))]);
+    ...faults.map((it) => element("p", { class: "wrong" }, it))]);
 }
 function programPage({ kind, lines, was }, at) {
   const given = { class: lines.join("").length > LONG && "long", "data-page": kind };

@@ -1,4 +1,5 @@
 // The six towers: their numbers with the limits, what each promises, and who may do what in one.
+import { quoted } from "./pages.js";
 
 const field = (name, meaning, least, most, first) => ({ name, meaning, least, most, first });
 const INITIAL = field("INIT", "the initial value", 0, 1, 0);
@@ -30,6 +31,7 @@ export const TOWERS = {
     promise: "Stamped registers between N processes. Atomic for them all; "
       + "TAG and INNER bound how many operations succeed." },
 };
+// what is wrong with a tower's numbers, in a sentence, or nothing
 export function sizeFault(kind, numbers) {
   const { fields, bits } = TOWERS[kind];
   for (const [index, { name, least, most }] of fields.entries()) {
@@ -45,10 +47,11 @@ export function sizeFault(kind, numbers) {
   const count = bits(...numbers);
   return count > MOST_BITS ? `It has ${count} bits: at most ${MOST_BITS}.` : "";
 }
+// what a tower's line says: how many bits, values and processes it has, and who may do what
 export function shapeOf(line) {
   const [kind, ...words] = line.split(" "), numbers = words.map(Number);
   if (!Object.hasOwn(TOWERS, kind) || sizeFault(kind, numbers))
-    throw new Error(`This isn't a tower: ${line.slice(0, 60)}`);
+    throw new Error(`This isn't a tower: ${quoted(line)}`);
   const { fields, bits } = TOWERS[kind], isMatrix = kind === "matrix";
   const indexOf = (name) => fields.findIndex((it) => it.name === name);
   const number = (name, otherwise) => numbers[indexOf(name)] ?? otherwise;

@@ -6,11 +6,11 @@ import { processesHere, putDeck } from "./deck.js";
 import { one } from "./elements.js";
 import { preparePrint } from "./printing.js";
 import { spent } from "./model.js";
-import { isLessonAtStart, putLesson } from "./lessons.js";
+import { isLessonAtStart, putLesson } from "./player.js";
 import { followFocus, look, putPicture } from "./picture.js";
 import { lookAtSecond, putSecond } from "./second.js";
 import { now } from "./state.js";
-import { goalLooks, putTask } from "./task.js";
+import { goalLooks, putTask } from "./taskstrip.js";
 import { putText } from "./text.js";
 
 // for the tests: what was asked of the program since the page began

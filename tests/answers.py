@@ -74,6 +74,7 @@ SMALL = (
 # Of these the quick test of the gate tries all schedules.
 QUICK = SMALL[:2] + SMALL[3:4]
 SCHEDULES, QUICK_SCHEDULES = 100_000, 2_700
+# How many schedules one run of `towerbench` is given, each as a branch.
 BRANCHES = 1_000
 SEED = 80
 
@@ -130,8 +131,8 @@ def ask(program, text):
         return listed_in(output_of([program, file.name]))[1]
 
 
-def name_of(number):
-    """Returns the name of the branch with a number."""
+def branch_name(number):
+    """Returns the name of the branch with a number: a, b, .. z, ba, .."""
     name = ""
     while True:
         name = chr(ord("a") + number % 26) + name
@@ -144,8 +145,8 @@ def histories_of(bench, tower, schedules):
     """Returns the lines of each schedule's history, as `towerbench` prints them."""
     lines, script = ["bench 1", tower], []
     for number, steps in enumerate(schedules):
-        lines += [f"branch {name_of(number)} 0 0", *steps]
-        script.append(f"0 history {name_of(number)} {len(steps)}")
+        lines += [f"branch {branch_name(number)} 0 0", *steps]
+        script.append(f"0 history {branch_name(number)} {len(steps)}")
     with tempfile.NamedTemporaryFile("w", encoding="ascii", suffix=".bench") as file:
         file.write("\n".join(lines) + "\n")
         file.flush()
@@ -202,10 +203,12 @@ def is_complete(question, it):
 
 
 def key_of(answers):
+    """Returns a list of answers as a tuple, by which lists are compared."""
     return tuple((p, *its) for p, its in sorted(answers.items()))
 
 
 def spelled(key):
+    """Returns a list of answers as `towerbench-answers` prints it."""
     return " ".join(" ".join([f"p{p}", *(its or ["none"])]) for p, *its in key)
 
 
@@ -227,7 +230,7 @@ def fault_of_own(bench, question, listed):
 
 def random_schedule(question, most, rng):
     """Returns a random schedule: each process invokes its operations in order, among steps of the
-    others."""
+    others. most: how many actions an operation is given at most."""
     queues = {}
     for p, its in question.operations.items():
         queue = queues[p] = []
@@ -373,6 +376,7 @@ def fault_of_question(bench, answers, line, count):
 
 
 def fault_of_small(bench, answers, line):
+    """Returns what is wrong with the answers to a small question, by all its schedules, or None."""
     question = question_of(line)
     return fault_of_whole(bench, question, ask(answers, question.text))
 

@@ -36,10 +36,12 @@ PLANTED = ("a refused write has a rank", "a read's rank falls", "a returned writ
 
 
 def first_ranking(processes, most):
+    """Returns what is known before any event. most: how many operations there may be."""
     return Ranking(0, (0,) + (None,) * most, (0,) * processes, (None,) * processes)
 
 
 def with_item(index, item, items):
+    """Returns a tuple with another item at an index."""
     return items[:index] + (item,) + items[index + 1 :]
 
 
@@ -146,12 +148,15 @@ def compare(processes, most, planted=None):
 
 
 def spelled(history):
+    """Returns a history in words."""
     return "; ".join(
         f"p{p} {kind}" + f" {value}" * (value is not None) for p, kind, value in history
     )
 
 
 def check_definition():
+    """Returns on which history the ranks and linearizability differ, or which wrong definition
+    isn't found, or None."""
     count, different = compare(2, 4)
     if different:
         return f"the definitions differ on: {spelled(different)}"
@@ -170,6 +175,8 @@ TOWERS = (
     ("matrix 4 2 1 3", 4, 2),
 )
 BRANCHES, STEPS, FILES = 500, 240, 200
+# One history in this many also has a wrong read planted.
+HISTORIES_PER_PLANT = 10
 EVENT_LINE = re.compile(
     r" +\d+ p(\d) (invoke|return|refused)(?: (read|written|write (\d+)|(\d+)|.*))?"
 )
@@ -206,6 +213,7 @@ def random_schedule(processes, values, blocks, rng):
 
 
 def event_of(line):
+    """Returns the event that a line of a history has; None: nothing that is compared."""
     found = EVENT_LINE.match(line)
     if not found:
         return None
@@ -266,7 +274,8 @@ def counts_of_file(program, seed, scratch):
         counts["refused"] += sum(it.kind == REFUSED for it in history)
         if not is_linearizable(history):
             raise ValueError(f"{tower}: not linearizable: {spelled(history)}")
-        planted = with_changed_read(history, rng) if counts["histories"] % 10 == 0 else None
+        is_planted = counts["histories"] % HISTORIES_PER_PLANT == 0
+        planted = with_changed_read(history, rng) if is_planted else None
         if planted:
             counts["planted"] += 1
             counts["found"] += not is_linearizable(planted)
@@ -274,6 +283,8 @@ def counts_of_file(program, seed, scratch):
 
 
 def check_histories(program):
+    """Returns that too few planted reads are found in histories of matrices, or None; one that
+    isn't linearizable is a ValueError."""
     counts = collections.Counter()
     with tempfile.TemporaryDirectory() as scratch, concurrent.futures.ProcessPoolExecutor() as pool:
         work = [pool.submit(counts_of_file, program, seed, scratch) for seed in range(FILES)]
@@ -297,15 +308,18 @@ Matrix = collections.namedtuple("Matrix", "processes writes_back refuses")
 # number of registers that it has read and written; and its code. An idle one is None.
 Code = collections.namedtuple("Code", "tag writer value")
 Working = collections.namedtuple("Working", "value read written code")
-# parts: codes by row and column; ranks: what may be known of the ranks, as a set
+# parts: codes by row and column; works: each process's Working; begun: whether each has invoked its
+# operation; ranks: what may be known of the ranks, as a set
 State = collections.namedtuple("State", "parts works begun ranks")
 
 
 def all_rankings_after(ranks, event):
+    """Returns what may be known after an event, by whatever may be known before it."""
     return frozenset(it for r in ranks for it in rankings_after(r, event))
 
 
 def first_state(matrix):
+    """Returns the state of a matrix before any operation."""
     n = matrix.processes
     ranks = frozenset([first_ranking(n, n)])
     return State(((Code(0, 0, 0),) * n,) * n, (None,) * n, (False,) * n, ranks)
@@ -325,7 +339,7 @@ def invoked_states(matrix, state, p):
     return found
 
 
-def words_of(code):
+def code_in_words(code):
     return f"{code.value} with tag {code.tag}"
 
 
@@ -352,12 +366,12 @@ def steps_of(matrix, state, p):
         if moved.read == n and work.value is not None:
             moved = moved._replace(code=Code(best.tag + 1, p, work.value))
         after, said = state_after(matrix, state, p, moved)
-        return [(name, f"reads R[{work.read}][{p}]: {words_of(code)}{said}", after)]
+        return [(name, f"reads R[{work.read}][{p}]: {code_in_words(code)}{said}", after)]
     at = work.written
     row = with_item(at, work.code, state.parts[p])
     written = state._replace(parts=with_item(p, row, state.parts))
     after, said = state_after(matrix, written, p, work._replace(written=at + 1))
-    found = [(name, f"writes R[{p}][{at}]: {words_of(work.code)}{said}", after)]
+    found = [(name, f"writes R[{p}][{at}]: {code_in_words(work.code)}{said}", after)]
     if matrix.refuses:
         ranks = all_rankings_after(state.ranks, Event(p, REFUSED, None))
         refused = state._replace(works=with_item(p, None, state.works), ranks=ranks)
@@ -383,6 +397,8 @@ def shortest_schedule(matrix):
 
 
 def schedule_to(before, state):
+    """Returns the steps that lead to a state; before: of each state the one before it and the step,
+    as they were first found."""
     found = []
     while before[state]:
         state, name, said = before[state]
@@ -400,6 +416,8 @@ ORDERS = {
 
 
 def check_order(name):
+    """Prints the shortest schedule that shows that a matrix isn't atomic, and returns what is wrong
+    with its length, or None."""
     matrix, length = ORDERS[name]
     steps = shortest_schedule(matrix)
     if (steps and len(steps)) != length:

@@ -87,6 +87,7 @@ def path_of(name, kind, scratch):
 
 
 def read(path):
+    """Returns the bytes of a file."""
     with open(path, "rb") as file:
         return file.read()
 
@@ -116,7 +117,8 @@ def case_of(name, scratch):
 
 
 def words_of_workers(case):
-    """Returns the words that a case is run with, before its own: numbers of workers, or none."""
+    """Returns the lists of words that a case is run with, before its own: a number of workers in
+    each, or none."""
     is_given = any(it.startswith(WORDS_OF_ONE_RUN) for it in case.words)
     if is_given or case.status == REFUSED_WORDS:
         return [[]]

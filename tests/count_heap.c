@@ -2,11 +2,13 @@
    and how many there were at most since the read before: `heap NOW PEAK`; and at its end too if HEAP_AT_END is set. */
 #define _GNU_SOURCE
 #include <dlfcn.h>
+#include <errno.h>
 #include <malloc.h>
 #include <stdio.h>
 #include <stdlib.h>
 #include <unistd.h>
 
+enum { CANT_REPORT = 3 };
 static size_t now, peak;
 
 static void *gained(void *block) {
@@ -27,7 +29,7 @@ void *aligned_alloc(size_t align, size_t size) { return gained(__libc_memalign(a
 
 int posix_memalign(void **block, size_t align, size_t size) {
     *block = gained(__libc_memalign(align, size));
-    return *block ? 0 : 12;
+    return *block ? 0 : ENOMEM;
 }
 
 void free(void *block) {
@@ -51,14 +53,14 @@ void *realloc(void *block, size_t size) {
 static void report(void) {
     char text[64];
     int length = snprintf(text, sizeof text, "heap %zu %zu\n", now, peak);
-    if (write(2, text, (size_t)length) < 0) _exit(3);
+    if (write(STDERR_FILENO, text, (size_t)length) < 0) _exit(CANT_REPORT);
     peak = now;
 }
 
 ssize_t read(int from, void *bytes, size_t count) {
     static ssize_t (*next)(int, void *, size_t);
     if (!next) next = (ssize_t (*)(int, void *, size_t))dlsym(RTLD_NEXT, "read");
-    if (from == 0) report();
+    if (from == STDIN_FILENO) report();
     return next(from, bytes, count);
 }
 

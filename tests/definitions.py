@@ -19,7 +19,7 @@ HEADING = re.compile(r"#+ (.*)")
 OF_A_FILE = re.compile(r"(?!Rattle\.)(?:[a-z]\w*\.)*[A-Z]\w*[a-z]\w*\.[A-Za-z_]\w*")
 
 
-def crate_of(line, before):
+def crate_after(line, before):
     """Returns the crate that the section is about, after a line; None: it names none."""
     heading = HEADING.fullmatch(line)
     if not heading:

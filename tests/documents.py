@@ -29,6 +29,7 @@ import definitions
 import sizes
 
 MOST_COLUMNS = 100
+# The pages that are a screen wide
 SCREENS = re.compile(r"lessons/[^/]+/README\.md")
 SOURCES = (".rt", ".antt", ".py", ".c", ".txt", ".edit", ".html", ".js", ".mjs", ".css")
 SCRIPTS = ("towerbench", ".ci/*", "tools/*", "tests/*")
@@ -53,10 +54,12 @@ ANY_NAME, MADE_BY_A_READER = ("NAME", "KIND"), ("/tmp/", "out/", "page.html")
 # number: that of the fence's line; kind: its first word, or ""; about: its second word, or "";
 # margin: the text before it
 Block = collections.namedtuple("Block", "number kind about margin lines")
+# The kinds of blocks that quote a file, and the line that is short for any lines
 QUOTED, LEFT_OUT = ("rust", "antt", "text"), ".."
 
 
 def documents():
+    """Returns the paths of all documents."""
     found = ["README.md", "CONTRIBUTING.md", "CHANGELOG.md"]
     for pattern in ("docs/**/*.md", "lessons/**/*.md", "page/**/README.md", "crates/*/README.md"):
         found += sorted(glob.glob(pattern, recursive=True))
@@ -227,7 +230,7 @@ def fault_of_commands(asked):
     return "; ".join(fault for faults in found for fault in faults) or None
 
 
-def faults_of_text(line, document, crate):
+def faults_of_line(line, document, crate):
     """Returns the faults of a line of the text, in a section about the crate."""
     found = [fault_of_span(it, crate) for it in SPAN.findall(line)]
     links = [it for it in LINK.findall(line) if "://" not in it]
@@ -251,8 +254,8 @@ def faults_of(document):
             found.append((number, f"{len(line)} columns"))
     crate = None
     for number, line in text:
-        crate = definitions.crate_of(line, crate)
-        found += [(number, it) for it in faults_of_text(line, document, crate)]
+        crate = definitions.crate_after(line, crate)
+        found += [(number, it) for it in faults_of_line(line, document, crate)]
     faults = [f"{document}:{number}: {it}" for number, it in sorted(found)]
     for it in blocks:
         if it.kind == CONSOLE and not it.about:

@@ -20,6 +20,7 @@ from pages import build
 from trials import Test
 
 TOP = os.path.dirname(os.path.dirname(os.path.realpath(__file__)))
+# The numbers of a lesson's exercises, and how many wrong attempts each has at least
 NUMBERS, FEWEST_WRONG = {1, 2, 3}, 2
 OF_EXERCISE = re.compile(r"^(\S+) (\d)$")
 ATTEMPT = re.compile(r"^  (wrong|right): (.+)$")
@@ -63,7 +64,7 @@ def scripts():
     return [it for it in found if re.search(r"^# (?:goal|ask)\b", text_of(f"{it}.script"), re.M)]
 
 
-def judged(program, names, tried):
+def judge_in_node(program, names, tried):
     """Returns what page/goals.js finds of each script and its attempts, by the script's name."""
     asked = []
     for name in names:
@@ -109,30 +110,31 @@ def faults_of_lesson(folder, names, tried, found):
         yield f"of its exercises {sorted(numbers)} have a goal or a question"
 
 
-class Judged:
+class AllJudged:
     """All scripts and attempts, which are judged once, when the first lesson asks."""
 
     def __init__(self, program):
         self.program, self.found, self.turn = program, None, threading.Lock()
 
-    def all_judged(self):
+    def judged_once(self):
+        """Returns the names of the scripts, the attempts, and what is found of each script."""
         with self.turn:
             if not self.found:
                 names, tried = scripts(), attempts()
                 strange = [it for it, _ in tried if it not in names]
                 if strange:
                     raise ValueError(f"tests/attempts.txt has {strange[0]}, which has no goal")
-                self.found = names, tried, judged(self.program, names, tried)
+                self.found = names, tried, judge_in_node(self.program, names, tried)
             return self.found
 
     def fault_of(self, folder):
-        return "; ".join(faults_of_lesson(folder, *self.all_judged())) or None
+        return "; ".join(faults_of_lesson(folder, *self.judged_once())) or None
 
 
 def tests(program):
     if not shutil.which("node"):
         return [Test("exercises: node isn't here", None)]
-    its = Judged(program)
+    its = AllJudged(program)
     return [
         Test(f"exercises of lessons/{it}", functools.partial(its.fault_of, it))
         for it in quotes.lessons()

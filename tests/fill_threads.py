@@ -11,6 +11,7 @@ import subprocess
 import cases
 
 SOURCE = "tests/count_threads.c"
+# How many steps each branch has
 STEPS = 128
 # Branches, workers, and how many threads are started: 128 segments have 16,384 steps.
 EXPECTED = (
@@ -26,6 +27,7 @@ EXPECTED = (
 
 
 def bench_file(branches, scratch):
+    """Writes a bench file of branches that share nothing, and returns its path."""
     path = f"{scratch}/threads-{branches}.bench"
     steps = [("w 0 1", "g 0 0", "g 0 0")[it % 3] for it in range(STEPS)]
     names = ["main", *(f"b{it}" for it in range(1, branches))]
@@ -35,12 +37,13 @@ def bench_file(branches, scratch):
     return path
 
 
-def threads_started(program, counts, branches, workers, scratch):
-    """Returns how many threads a fill starts at a bench of that many branches."""
+def threads_started(program, counter, branches, workers, scratch):
+    """Returns how many threads a fill starts at a bench of that many branches; counter: the path of
+    the library that counts them."""
     mark = f"{scratch}/threads-{branches}-{workers}"
     words = [bench_file(branches, scratch), "--workers", str(workers)]
     words += ["--branches", "1024", "--cells", str(branches * STEPS)]
-    environment = {**os.environ, "LD_PRELOAD": counts, "THREADS_MARK": mark}
+    environment = {**os.environ, "LD_PRELOAD": counter, "THREADS_MARK": mark}
     ran = cases.run(program, words, b"0 fill main\n", environment)
     if (ran.status, ran.output) != (0, b"0: filled\n"):
         raise cases.Failure(f"a fill of {branches} branches: {ran}")
@@ -49,11 +52,11 @@ def threads_started(program, counts, branches, workers, scratch):
 
 def fault(program, scratch):
     """Returns what is wrong with the numbers of threads, or nothing."""
-    counts = f"{scratch}/count_threads.so"
-    subprocess.run(["cc", "-O2", "-shared", "-fPIC", "-o", counts, SOURCE, "-ldl"], check=True)
+    counter = f"{scratch}/count_threads.so"
+    subprocess.run(["cc", "-O2", "-shared", "-fPIC", "-o", counter, SOURCE, "-ldl"], check=True)
     faults = []
     for branches, workers, wanted in EXPECTED:
-        got = threads_started(program, counts, branches, workers, scratch)
+        got = threads_started(program, counter, branches, workers, scratch)
         if got != wanted:
             faults.append(f"{branches} branches, {workers} workers: {got} threads, not {wanted}")
     return "; ".join(faults) or None

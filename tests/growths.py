@@ -97,7 +97,7 @@ Trial = collections.namedtuple("Trial", "name words in_a_row")
 
 
 def compiled(scratch):
-    """Returns the path of what refuses growths; None: there is no C compiler here."""
+    """Returns the path of the library that refuses growths; None: there is no C compiler here."""
     if shutil.which("cc") is None:
         return None
     target = f"{scratch}/refuse.so"
@@ -105,8 +105,9 @@ def compiled(scratch):
     return target
 
 
-def words_of_workers(name):
-    """Returns the words that a case is tried with, before its own."""
+def words_of_trials(name):
+    """Returns the lists of words that a case is tried with, before its own: fewer numbers of
+    workers than it is run with (tests/cases.py)."""
     words = cases.read(f"{name}.words") if os.path.exists(f"{name}.words") else b""
     if b"--workers" in words:
         return [[]]
@@ -117,7 +118,7 @@ def trials(names, of_rows):
     """Returns the trials of the named cases and of the rows, of_rows giving a row's name."""
     wanted = [(it, 1) for it in [*map(of_rows, ROWS), *names]]
     wanted += [(of_rows(it), count) for count, rows in MORE_IN_A_ROW.items() for it in rows]
-    return [Trial(name, words, count) for name, count in wanted for words in words_of_workers(name)]
+    return [Trial(name, words, count) for name, count in wanted for words in words_of_trials(name)]
 
 
 def remark():

@@ -21,8 +21,8 @@ EXAMPLES = "examples"
 FAULTS = "tests/questions/faults.txt"
 GUIDE = "docs/guide/answers.md"
 ROW = re.compile(r"^\| [^|]+ \| `([^`|]+)` \| `([^`|]+)` \| (\d+|none)[^|]*\|$", re.M)
-NAME = "towerbench-answers: "
-FAULTED = 1
+# What a fault's line begins with, and the status after a fault
+NAME, FAULTED = "towerbench-answers: ", 1
 
 
 def read(path):
@@ -133,6 +133,7 @@ def is_wanted(wanted, its):
 
 
 def rows():
+    """Returns the rows of the guide's table: question, answers, and least number of steps."""
     return ROW.findall(read(GUIDE))
 
 

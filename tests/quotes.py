@@ -22,6 +22,7 @@ import re
 TOP = pathlib.Path(__file__).resolve().parent.parent
 LESSONS = TOP / "lessons"
 INDEX = LESSONS / "README.md"
+# How many lines and columns a screen has
 SCREEN = (48, 120)
 FENCE = "```"
 # an answer's line where it is named in a text: an event or a verdict, a process, a cell, bits,
@@ -29,12 +30,13 @@ FENCE = "```"
 NAMED = re.compile(
     r"`(\d+ p\d [^`]*|p\d [^`]*|\d+ [01] [01-] [rh-]|bits \d[^`]*|words [^`]*|\d+: [^`]*)`"
 )
-# a command where it is named in a text
+# the names of commands, and a command where it is named in a text
 COMMANDS = (
     "insert remove replace fork detach drop join leave go break clear seek back "
     "state process pending bits history verdict steps branches cursor fill"
 )
 COMMAND = re.compile(rf"`(\d+ (?:{COMMANDS.replace(' ', '|')})\b[^`]*)`")
+# a line that is short for inserts, and in it how often a step is inserted
 SHORT, TIMES = re.compile(r"(\d+ insert \S+ )(\d+)\.\. (.+)"), re.compile(r"(?:(\d+) \* )?(.+)")
 EXERCISE = re.compile(r"^\d\. \*\*(.*?)[.?]\*\*", re.M)
 QUESTION, OF_YOUR_OWN, FEWEST_EXERCISES = "**Question.** ", "A schedule of your own", 3
@@ -43,6 +45,7 @@ LINK = re.compile(r"\]\((\d\d-[a-z-]+)/(?:README\.md)?\)")
 
 
 def is_command(line):
+    """Returns whether a line is typed: an answer's first line has a colon after the number."""
     return re.match(r"\d+ ", line) is not None
 
 
@@ -57,7 +60,7 @@ def written_out(line):
     return [f"{head}{place} {step}" for place, step in enumerate(steps, int(first))]
 
 
-def text_and_blocks(page):
+def text_and_marked_blocks(page):
     """Returns a page's text without its blocks, and of each block its mark and its lines."""
     text, blocks, is_inside = [], [], False
     for line in page.read_text(encoding="ascii").splitlines():
@@ -104,7 +107,8 @@ def transcript_faults(page, name, lines):
 
 
 def page_faults(page):
-    text, blocks = text_and_blocks(page)
+    """Yields what is wrong with what a page quotes and names of its scripts and outputs."""
+    text, blocks = text_and_marked_blocks(page)
     transcripts = {it.stem: [] for it in page.parent.glob("*.script")}
     for mark, lines in blocks:
         kind, _, name = mark.partition(" ")
@@ -156,6 +160,7 @@ def lessons():
 
 
 def index_faults():
+    """Yields what is wrong with the page that lists the lessons."""
     if LINK.findall(INDEX.read_text(encoding="ascii")) != lessons():
         yield f"its links aren't, in order: {' '.join(lessons())}"
 

@@ -8,6 +8,7 @@
 extern void *__libc_malloc(size_t size);
 extern void *__libc_realloc(void *old, size_t size);
 
+/* how many growths there were, the number of the first one to refuse, and how many are refused */
 static long growths, first, count;
 static int mark = -1;
 

@@ -77,7 +77,7 @@ def two_builds():
 def put_release(releases, folder):
     write_file(f"{folder}/towerbench.html", page_of(b"module"))
     write_file(f"{folder}/towerbench", "program")
-    write_file(f"{folder}/SHA256SUMS", releases.lines_of(releases.sums_of(folder)))
+    write_file(f"{folder}/SHA256SUMS", releases.sum_lines(releases.sums_of(folder)))
 
 
 def sums_of_a_release():

@@ -19,7 +19,7 @@ SAVE = "--save"
 
 
 def options_of(words):
-    """Returns the words after a file's path."""
+    """Returns the words after a file's path; all of them if there is no file."""
     return words[1:] if words and not words[0].startswith("-") else words
 
 

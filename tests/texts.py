@@ -20,7 +20,8 @@ FRAME = re.compile(r"(?:safe|copies|regular|unary|stamped|matrix) [wr]\b.*")
 NUMBERED = re.compile(r"\d\d [A-Z]\w+")
 BREAKS = re.compile(r"\| BREAK \|.*?\n\n", re.DOTALL)
 MEMORY = "40 Memory"
-ANY = {"pP": r"p\d+", "A": "(?:ws|we|rs|re)", "STEP": r"[wrgx] .+", "BREAK": r"\S.*", "BR": r"\S.*"}
+# What the guide's placeholders may be; any other word of capitals is any one word
+ANY = {"pP": r"p\d+", "A": "(?:ws|we|rs|re)", "STEP": r"[wrgx] .+", "BREAK": r"\S.*"}
 
 
 def pattern_of(text):
@@ -53,6 +54,7 @@ def texts_of(page):
 
 
 def read(path):
+    """Returns the text of a file."""
     with open(path, encoding="utf-8", errors="replace") as file:
         return file.read()
 

@@ -25,7 +25,7 @@ import re
 
 import cases
 import quotes
-from pages.inside import Inside, Tower
+from pages.layer_reader import Inside, Tower
 
 # The session whose looks come after the script; pages take any number.
 LOOK = "999999999"
@@ -195,7 +195,7 @@ def fault_of_block(program, folder, words, lines):
 def fault_of(path, program):
     """Returns what is wrong with the time lines of a page, or nothing."""
     folder = os.path.dirname(path)
-    text, blocks = quotes.text_and_blocks(quotes.TOP / path)
+    text, blocks = quotes.text_and_marked_blocks(quotes.TOP / path)
     timelines = [
         (mark.split()[1:], lines) for mark, lines in blocks if mark.split()[:1] == ["timeline"]
     ]

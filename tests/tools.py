@@ -18,7 +18,7 @@ import types
 
 import cases
 import documents
-import refusals
+import wrong_bodies
 from trials import Test
 
 TOP = os.path.dirname(os.path.dirname(os.path.realpath(__file__)))
@@ -78,10 +78,10 @@ def side_at(top):
 def crates_and_lines():
     with repository() as top:
         side = side_at(top)
-        crates = side.crates_of()
+        crates = side.listed_crates()
         expect_equal("crates", crates, {"low": [], "over": ["low"], "tool": ["low", "over"]})
         expect_equal("below tool", side.all_below(crates, "tool"), ["low", "over"])
-        expect_equal("lines of low", side.lines_of("low"), 21)
+        expect_equal("lines of low", side.lines_in("low"), 21)
         # Its own 5, and a seventh of the 21 below
         expect_equal("lines of the check of over", side.lines_of_check(crates, "over"), 8)
         expect_equal("programs", [it for it in crates if side.is_program(it)], ["tool"])
@@ -92,7 +92,7 @@ def tree_of_a_crate():
         side = side_at(top)
         write_file(f"{top}/crates/low/out/rlib/low.rlib", "built")
         write_file(f"{top}/crates/over/out/before", "kept")
-        with side.Tree(side.crates_of(), "over") as tree:
+        with side.Tree(side.listed_crates(), "over") as tree:
             found = sorted(
                 os.path.relpath(f"{at}/{it}", tree.top)
                 for at, _, files in os.walk(tree.top)
@@ -200,9 +200,8 @@ def statements_at(top):
 def words_of_a_library():
     with repository() as top:
         statements, _ = statements_at(top)
-        words = " ".join(statements.steps_of(statements.side.crates_of(), "over", 2)[0]).replace(
-            top, "TOP"
-        )
+        crates = statements.side.listed_crates()
+        words = " ".join(statements.steps_of(crates, "over", 2)[0]).replace(top, "TOP")
         expect_equal(
             "words",
             words,
@@ -218,7 +217,7 @@ def words_of_a_library():
 def built_once():
     with repository() as top:
         statements, given = statements_at(top)
-        crates = statements.side.crates_of()
+        crates = statements.side.listed_crates()
         made = [statements.prove(crates, it, 1, 0) for it in ("low", "low", "over", "tool")]
         expect_equal("proved", made, [True] * 4)
         # A program is compiled, and then linked
@@ -240,7 +239,7 @@ def sums_after_a_new_layer():
         statements, _ = statements_at(top)
         side = statements.side
         shutil.copy(f"{TOP}/crates.txt", top)
-        for name, part in itertools.product(side.crates_of(), side.PARTS):
+        for name, part in itertools.product(side.listed_crates(), side.PARTS):
             if os.path.isdir(f"{TOP}/crates/{name}/{part}"):
                 shutil.copytree(f"{TOP}/crates/{name}/{part}", f"{top}/crates/{name}/{part}")
         before = sums_of(statements)
@@ -263,16 +262,15 @@ def sums_after_a_new_layer():
             True,
         )
         write_file(f"{top}/crates/layers/specs/Added.antt", "-- a definition\n")
-        changed = [
-            statements.sum_of(side.crates_of(), it) != after[it] for it in ("another", "frames")
-        ]
+        crates = side.listed_crates()
+        changed = [statements.crate_sum(crates, it) != after[it] for it in ("another", "frames")]
         expect_equal("proved again if layers changes: another, frames", changed, [True, False])
 
 
 def sums_of(statements):
     """Returns the sum of each crate, by its name."""
-    crates = statements.side.crates_of()
-    return {it: statements.sum_of(crates, it) for it in crates}
+    crates = statements.side.listed_crates()
+    return {it: statements.crate_sum(crates, it) for it in crates}
 
 
 def words_of_first_run():
@@ -464,7 +462,9 @@ fn most() -> u32 {
 
 
 def places_of_changes():
-    at = lambda text, file="src/store/cell.rt": refusals.place_of(file, SOURCE, SOURCE.index(text))
+    at = lambda text, file="src/store/cell.rt": wrong_bodies.module_and_function(
+        file, SOURCE, SOURCE.index(text)
+    )
     expect_equal("a method", at("self.value\n"), ("store::cell", "Cell::value"))
     expect_equal("a method of an impl of a trait", at("*self"), ("store::cell", "CellModel::clone"))
     expect_equal("a constant", at("u32 = 4"), ("store::cell", ""))
@@ -479,7 +479,7 @@ def selections_of_edits():
 
         def of(*lines):
             write_file(f"{temporary}/edit", "\n".join(lines) + "\n")
-            return refusals.selections(f"{temporary}/edit", temporary)
+            return wrong_bodies.selections(f"{temporary}/edit", temporary)
 
         method, value = ["file: src/cell.rt", "old:         self.value", "new:         0"], [
             "old:     MOST",
@@ -505,10 +505,10 @@ def selections_of_edits():
         expect_equal("what it refuses", of("only: laws::safe", *definition), [["laws::safe"], []])
 
 
-def refusals_of_checks():
+def checks_that_refuse():
     said = "note: src/cell.rt:12:5: it is not proved that what the function ensures holds"
     rt = types.SimpleNamespace(unread=lambda line, texts: "not in scope" in line)
-    of = lambda status, *lines: refusals.refusal_in(
+    of = lambda status, *lines: wrong_bodies.line_that_refuses(
         rt, types.SimpleNamespace(returncode=status, stdout="\n".join(lines) + "\n"), {}
     )
     expect_equal("some functions", of(1, said, "only=2 proved=1"), said)
@@ -528,7 +528,7 @@ def names_of_impls():
         ("Named for R", "AnyNamed"),
         ("Register: Behaves + Copy", "Register"),
     ):
-        expect_equal(head, refusals.name_of_impl(head), name)
+        expect_equal(head, wrong_bodies.name_of_impl(head), name)
 
 
 def bodies_of_edits():
@@ -539,7 +539,7 @@ def bodies_of_edits():
             text = SOURCE
             for old, new in pairs:
                 text = text.replace(old, new)
-            return [it.name for it in refusals.bodies_of({"src/cell.rt": text}, temporary)]
+            return [it.name for it in wrong_bodies.bodies_of({"src/cell.rt": text}, temporary)]
 
         body = ("        self.value\n", "        0\n")
         expect_equal("a body", of(body), ["Cell::value"])
@@ -570,12 +570,12 @@ def checks_of_cells(said):
 
     def read_edit(edit, crate):
         texts = {}
-        for path, text, at in refusals.changes_of(edit, crate):
+        for path, text, at in wrong_bodies.places_changed(edit, crate):
             texts[path] = text[: at + 1] + "  // edited" + text[at + 1 :]
         return texts, None
 
     def checked(_, texts, flags, __):
-        names = flags[len(refusals.FLAGS) + 1 :: 2]
+        names = flags[len(wrong_bodies.FLAGS) + 1 :: 2]
         asked.append((names, texts["src/cell.rt"].count("  // edited")))
         lines = [line for it in names if it in said for line in said[it](names)]
         is_proved = all(it.endswith(": proved") for it in lines)
@@ -599,7 +599,7 @@ def tried_with(said):
             write_file(f"{temporary}/{name}", f"file: src/cell.rt\nold: {old}\nnew: edited\n")
         crate = types.SimpleNamespace(folder=temporary)
         paths = [f"{temporary}/{it}" for it in edits]
-        results = refusals.all_tried(rt, crate, paths, temporary)
+        results = wrong_bodies.all_tried(rt, crate, paths, temporary)
         return [result.said for _, result in results], asked
 
 
@@ -669,16 +669,17 @@ def edits_of_callers():
         for name, old in edits.items():
             write_file(f"{temporary}/{name}", f"file: src/cell.rt\nold: {old}\nnew: edited\n")
         rt, crate = checks_of_cells({})[0], types.SimpleNamespace(folder=temporary)
-        changes = refusals.changes_by(rt, crate, [f"{temporary}/{it}" for it in edits])
+        changes = wrong_bodies.body_changes(rt, crate, [f"{temporary}/{it}" for it in edits])
         found = [
-            [os.path.basename(it.edit) for it in batch] for batch in refusals.batches_of(changes)
+            [os.path.basename(it.edit) for it in batch]
+            for batch in wrong_bodies.batches_of(changes)
         ]
         expect_equal("a caller apart", found, [["most", "value"], ["twice"]])
 
 
 def faults_of_other_functions():
-    body = refusals.Body("Cell::value", "src/cell.rt", 8, 12)
-    of = lambda fault, *said: refusals.own_refusal(
+    body = wrong_bodies.Body("Cell::value", "src/cell.rt", 8, 12)
+    of = lambda fault, *said: wrong_bodies.own_fault(
         [fault, *[f"fn cells::cell::{it}" for it in said]], [fault], body
     )
     own, other = f"note: {CELL.format('11:9')}", f"note: {CELL.format('14:1')}"
@@ -743,7 +744,7 @@ ALL = {
     "wrong": (
         places_of_changes,
         selections_of_edits,
-        refusals_of_checks,
+        checks_that_refuse,
         names_of_impls,
         bodies_of_edits,
         edits_tried_together,

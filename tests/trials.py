@@ -9,6 +9,14 @@ import cases
 
 # work: is called with nothing, and returns what is wrong, or nothing; None: it can't be tried here
 Test = collections.namedtuple("Test", "name work")
+# How many of a test's faults are shown, and how many characters of these.
+FAULTS_SHOWN, CHARACTERS_SHOWN = 3, 900
+
+
+def in_short(faults, tried):
+    """Returns how many faults there are in what was tried, and the first of them; None: none."""
+    said = f"{len(faults)} of {tried}: {'; '.join(faults[:FAULTS_SHOWN])}"
+    return said[:CHARACTERS_SHOWN] if faults else None
 
 
 def outcome(test):
@@ -19,7 +27,7 @@ def outcome(test):
         return str(error)
 
 
-def count_faults(tests, lanes):
+def print_faults(tests, lanes):
     """Runs all tests side by side, prints which fail, and returns how many."""
     failed = 0
     with ThreadPoolExecutor(lanes or os.cpu_count()) as pool:
@@ -39,7 +47,7 @@ def status_of(tests, is_whole=False, lanes=None, remark=None):
     skipped = [it for it in tests if it.work is None]
     for it in skipped:
         print(f"{it.name}: not tried")
-    failed = count_faults([it for it in tests if it.work], lanes)
+    failed = print_faults([it for it in tests if it.work], lanes)
     if remark:
         print(remark())
     passed = len(tests) - failed - len(skipped)

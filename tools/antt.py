@@ -24,10 +24,11 @@ def is_word(name):
 
 
 def margin_of(line):
+    """Returns how many spaces a line begins with."""
     return len(line) - len(line.lstrip(" "))
 
 
-def code_of(text):
+def lines_without_comments(text):
     """Returns the lines of a file without comments."""
     return [it.partition(COMMENT)[0].rstrip() for it in text.split("\n")]
 
@@ -47,7 +48,7 @@ def declarations(text):
     """Returns what a file declares for all of it, in order: fields and local names are lines of
     what they are in."""
     found, is_open = [], False
-    for number, line in enumerate(code_of(text)):
+    for number, line in enumerate(lines_without_comments(text)):
         if not line.strip():
             continue
         inside = is_open and margin_of(line) > found[-1].margin

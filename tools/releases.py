@@ -23,6 +23,7 @@ class NotAPage(ValueError):
 
 
 def read(name, folder=None):
+    """Returns the bytes of a release's file, in release/ or in another folder."""
     with open(f"{folder or FOLDER}/{name}", "rb") as file:
         return file.read()
 
@@ -69,7 +70,7 @@ def sums_of(folder=None):
     return {**found, **{module_name(it): sum_of(text) for it, text in modules.items()}}
 
 
-def lines_of(sums):
+def sum_lines(sums):
     """Returns the sums as `sha256sum` reads them."""
     return "".join(f"{it}  {name}\n" for name, it in sorted(sums.items()))
 

@@ -49,8 +49,8 @@ def say(text):
     print(f"towerbench: {text}", file=sys.stderr, flush=True)
 
 
-def rows():
-    """Returns the row of each crate in crates.txt, by its name."""
+def crate_lines():
+    """Returns the line of each crate in crates.txt, by its name."""
     found = {}
     with open(f"{TOP}/crates.txt", encoding="utf-8") as file:
         for line in file:
@@ -60,11 +60,14 @@ def rows():
     return found
 
 
-def crates_of():
+def libraries_in(line):
+    """Returns the libraries that a crate's line of crates.txt names, the kit's too."""
+    return line.partition(":")[2].replace(",", " ").split()
+
+
+def listed_crates():
     """Returns each crate of crates.txt, with the crates of the repository directly below it."""
-    libraries = {
-        name: row.partition(":")[2].replace(",", " ").split() for name, row in rows().items()
-    }
+    libraries = {name: libraries_in(line) for name, line in crate_lines().items()}
     return {name: [it for it in below if it in libraries] for name, below in libraries.items()}
 
 
@@ -76,7 +79,7 @@ def all_below(crates, name):
     return found
 
 
-def lines_of(name):
+def lines_in(name):
     """Returns how many lines a crate's files have."""
     count = 0
     for part in PARTS:
@@ -89,7 +92,7 @@ def lines_of(name):
 
 def lines_of_check(crates, name):
     """Returns about how long the check of a crate takes, as lines."""
-    return lines_of(name) + sum(map(lines_of, all_below(crates, name))) // LINES_LOADED_AS_ONE
+    return lines_in(name) + sum(map(lines_in, all_below(crates, name))) // LINES_LOADED_AS_ONE
 
 
 def is_program(name):
@@ -107,6 +110,7 @@ class Tree:
     """A scratch tree for work on one crate, which nothing else works on meanwhile. Used by
     `with`."""
 
+    # has_out: whether it has what is built of the crate itself, too
     def __init__(self, crates, name, has_out=True):
         self.name, self.below, self.has_out = name, all_below(crates, name), has_out
         self.top = tempfile.mkdtemp(prefix="towerbench-")
@@ -134,9 +138,10 @@ class Tree:
             os.close(it)
 
     def fill(self):
+        """Copies what the work needs: sources, the libraries below, and what was built before."""
         with open(f"{self.top}/crates.txt", "w", encoding="utf-8") as listed:
             listed.writelines(
-                f"{row}\n" for it, row in rows().items() if it in (*self.below, self.name)
+                f"{line}\n" for it, line in crate_lines().items() if it in (*self.below, self.name)
             )
         for it in [*self.below, self.name]:
             for part in PARTS:
@@ -207,8 +212,9 @@ class Processes:
 PROCESSES = Processes()
 
 
-def prove(crates, name, jobs, niceness):
-    """Proves and builds one crate over those below it, and returns whether it is proved."""
+def prove_by_rt(crates, name, jobs, niceness):
+    """Proves and builds one crate by `rt`, in a tree of its own, and returns whether it is
+    proved."""
     with Tree(crates, name) as tree:
         # `rt run` builds a program and also runs it, here on no input
         verb = "run" if is_program(name) else "lib"
@@ -237,12 +243,13 @@ def said_of_failure(log, name):
 
 
 def show_failure(log, name):
+    """Prints why a crate isn't proved, by the log of its proof."""
     said, *lines = said_of_failure(log, name)
     say(said)
     print(*lines, sep="\n", file=sys.stderr, flush=True)
 
 
-def proofs(crates, names, prove_one=prove):
+def proof_tasks(crates, names, prove_one=prove_by_rt):
     """Returns the tasks that prove these crates and all below them, by their names."""
     wanted = {it for name in names for it in [*all_below(crates, name), name]}
     return {
@@ -257,16 +264,18 @@ def proofs(crates, names, prove_one=prove):
     }
 
 
-def text_of(file):
+def text_of(path):
+    """Returns the text of a file; None: it can't be read."""
     try:
-        with open(file, encoding="utf-8") as it:
-            return it.read()
+        with open(path, encoding="utf-8") as file:
+            return file.read()
     except OSError:
         return None
 
 
-def number_in(file, pattern):
-    found = re.search(pattern, text_of(file) or "")
+def number_in(path, pattern):
+    """Returns the number that a pattern finds in a file; None: it finds none."""
+    found = re.search(pattern, text_of(path) or "")
     return int(found.group(1)) if found else None
 
 
@@ -294,14 +303,14 @@ def chains(tasks):
     """Returns for each task the lines of the longest chain of tasks that begins with it."""
     found = {}
 
-    def of(key):
+    def chain_from(key):
         if key not in found:
             above = [it for it, task in tasks.items() if key in task.waits]
-            found[key] = tasks[key].lines + max(map(of, above), default=0)
+            found[key] = tasks[key].lines + max(map(chain_from, above), default=0)
         return found[key]
 
     for key in tasks:
-        of(key)
+        chain_from(key)
     return found
 
 

@@ -17,6 +17,7 @@ TARGET = "x86_64-unknown-linux-gnu"
 
 
 def said_by_rt(word):
+    """Returns what a command of `rt` prints."""
     return subprocess.run(
         ["rt", word], check=True, stdout=subprocess.PIPE, text=True
     ).stdout.strip()
@@ -42,26 +43,25 @@ def built_path(name):
     return f"{folder_of(name)}/out/statements/{name}{'' if side.is_program(name) else '.rlib'}"
 
 
-def sum_of(crates, name):
+def crate_sum(crates, name):
     """Returns a sum of all that a crate's library or program is made from."""
-    found, rows = hashlib.sha256(kit_name().encode()), side.rows()
+    found, lines = hashlib.sha256(kit_name().encode()), side.crate_lines()
     for it in [*side.all_below(crates, name), name]:
-        found.update(repr(rows[it]).encode())
+        found.update(repr(lines[it]).encode())
         for part in side.PARTS:
             for at, _, files in sorted(os.walk(f"{folder_of(it)}/{part}")):
-                for file in sorted(files):
-                    with open(f"{at}/{file}", "rb") as text:
-                        found.update(
-                            repr((os.path.relpath(f"{at}/{file}", side.TOP), text.read())).encode()
-                        )
+                for path in sorted(f"{at}/{file}" for file in files):
+                    with open(path, "rb") as source:
+                        content = os.path.relpath(path, side.TOP), source.read()
+                    found.update(repr(content).encode())
     return found.hexdigest()
 
 
 def words_of(crates, name, made=built_path):
-    """Returns the words that give `rattle` a crate, the libraries that its row names, and where
-    theirs are; `made`: where each is built."""
+    """Returns the words that give `rattle` a crate, the libraries that its line of crates.txt
+    names, and where theirs are; `made`: where each is built."""
     words = ["--crate-name", name, f"src/{'main' if side.is_program(name) else 'lib'}.rt"]
-    named = side.rows()[name].partition(":")[2].replace(",", " ").split()
+    named = side.libraries_in(side.crate_lines()[name])
     for it in ["std", *[it for it in named if it not in crates]]:
         words += ["--extern", f"{it}={kit()}/rlibs/{it}.rlib"]
     for it in crates[name]:
@@ -80,12 +80,13 @@ def words_of(crates, name, made=built_path):
     return [*words, "--links", f"{name}="]
 
 
-def toolchain():
+def toolchain_words():
+    """Returns the words that give `rattle` and the linker the kit's compilers."""
     return ["--toolchain", f"{kit()}/toolchain"]
 
 
 def c_libraries():
-    """Returns what a program is linked with."""
+    """Returns the paths of the kit's C libraries, with which a program is linked."""
     return [f"{kit()}/c/lib{it}_c.a" for it in ("os", "libc")]
 
 
@@ -95,7 +96,7 @@ def link_command(unlinked, linked):
         f"{kit()}/bin/rattle-link",
         "--target",
         TARGET,
-        *toolchain(),
+        *toolchain_words(),
         "-o",
         linked,
         unlinked,
@@ -111,7 +112,7 @@ def steps_of(crates, name, jobs):
     unlinked = f"out/statements/{name}.o"
     # Rattle's own compiler is done a minute sooner than LLVM, and nothing else is left to do
     return [
-        [*prover, *toolchain(), "--backend", "rattle", "-o", unlinked],
+        [*prover, *toolchain_words(), "--backend", "rattle", "-o", unlinked],
         link_command(unlinked, built_path(name)),
     ]
 
@@ -119,12 +120,13 @@ def steps_of(crates, name, jobs):
 def llvm_steps_of(crates, name, unlinked, built):
     """Returns the commands that prove a program's own crate, build it by LLVM and link it, in its
     folder."""
-    prover = [f"{kit()}/bin/rattle", "build", *words_of(crates, name), *toolchain()]
+    prover = [f"{kit()}/bin/rattle", "build", *words_of(crates, name), *toolchain_words()]
     return [[*prover, "-o", unlinked], link_command(unlinked, built)]
 
 
 def prove(crates, name, jobs, niceness):
-    """Proves and builds one crate over those below it, and returns whether it is proved."""
+    """Proves and builds one crate over the statements of those below it, unless that is done, and
+    returns whether it is proved."""
     is_proved = is_current(crates, name) or build(crates, name, jobs, niceness)
     if is_proved and side.is_program(name):
         # It replaces the program that `rt` built at one stroke, even if that is running
@@ -134,13 +136,16 @@ def prove(crates, name, jobs, niceness):
 
 
 def is_current(crates, name):
+    """Returns whether a crate is built from the sources that are here now."""
     return os.path.exists(built_path(name)) and side.text_of(
         f"{folder_of(name)}/out/statements/sum"
-    ) == sum_of(crates, name)
+    ) == crate_sum(crates, name)
 
 
 def build(crates, name, jobs, niceness):
-    kept, wanted = f"{folder_of(name)}/out/statements", sum_of(crates, name)
+    """Proves and builds one crate in place, and returns whether it is proved; the sum of what it
+    was made from is kept with it."""
+    kept, wanted = f"{folder_of(name)}/out/statements", crate_sum(crates, name)
     shutil.rmtree(kept, ignore_errors=True)
     os.makedirs(kept)
     for step in steps_of(crates, name, jobs):
@@ -150,7 +155,7 @@ def build(crates, name, jobs, niceness):
                 side.show_failure(log, name)
             return False
     # Edits made meanwhile may or may not be in it
-    if sum_of(crates, name) == wanted:
+    if crate_sum(crates, name) == wanted:
         with open(f"{kept}/sum", "w", encoding="utf-8") as file:
             file.write(wanted)
     return True

@@ -20,10 +20,12 @@ CHANGES, HEADING = "CHANGELOG.md", re.compile(r"^## (\S+)$", re.M)
 
 
 def text_at(path):
+    """Returns the text of a path from the repository's top."""
     return side.text_of(f"{side.TOP}/{path}") or ""
 
 
 def version():
+    """Returns the version that the file VERSION has."""
     return (side.text_of(FILE) or "").strip()
 
 
@@ -45,7 +47,8 @@ def faults():
     return found
 
 
-def write(path, text):
+def write_at(path, text):
+    """Writes a text to a path from the repository's top."""
     with open(f"{side.TOP}/{path}", "w", encoding="utf-8") as file:
         file.write(text)
 
@@ -54,5 +57,5 @@ def set_version(new):
     """Writes a version in place of the one that all places say, but for the changes."""
     now = version()
     for path, text in PLACES.items():
-        write(path, text_at(path).replace(text.format(now), text.format(new)))
-    write(os.path.relpath(FILE, side.TOP), f"{new}\n")
+        write_at(path, text_at(path).replace(text.format(now), text.format(new)))
+    write_at(os.path.relpath(FILE, side.TOP), f"{new}\n")

@@ -70,7 +70,7 @@ def steps_without_void(line, scratch):
     given = list(given_steps(line))
     command = [
         runs.PROGRAM,
-        runs.tower(line, given, len(given), scratch),
+        runs.tower_file(line, given, len(given), scratch),
         "--cells",
         str(len(given)),
     ]
@@ -100,7 +100,7 @@ def add_looks_and_edits(steps, line, table):
     for _, lines, adds in edits:
         for count, it in enumerate(lines, 1):
             pieces += [it, f"0 state main {len(steps) + adds * count}\n"]
-    path = runs.tower(line, steps, len(steps), table.scratch)
+    path = runs.tower_file(line, steps, len(steps), table.scratch)
     taken = costs_of([path, *WORDS], pieces, table.scratch)
     for row in ("opening", "the first look at the end", "the same look again"):
         table.add(row, taken.pop(0))
@@ -113,7 +113,7 @@ def add_looks_and_edits(steps, line, table):
 def shared_by_few(steps, scratch):
     """Inserts of steps that 200 forks share: the first ones, the next ones, and the last ones."""
     table = Table("instructions, safe 0, inserts that 200 forks share", scratch)
-    path = runs.tower("safe 0", steps, FEW_STEPS, scratch)
+    path = runs.tower_file("safe 0", steps, FEW_STEPS, scratch)
     forks = "".join(f"0 fork main {FEW_STEPS} a{i}\n" for i in range(FEW))
     for name in ("0", "any place"):
         drawn, count, pieces = numbers(), FEW_STEPS, [forks]
@@ -143,7 +143,7 @@ def edits_that_many_share(places):
 def shared_by_many(steps, scratch):
     """Edits of steps that 1,000 forks share, and looks after them."""
     table = Table("instructions, safe 0, 1,000 forks", scratch)
-    path = runs.tower("safe 0", steps, MANY_STEPS, scratch)
+    path = runs.tower_file("safe 0", steps, MANY_STEPS, scratch)
     drawn, half = numbers(3), MANY_STEPS // 2
     for places in ([MANY_STEPS] * MANY, [half + next(drawn) % half for _ in range(MANY)]):
         rows = dict(edits_that_many_share(places))
@@ -157,7 +157,7 @@ def resident(steps, scratch):
     """Bytes of the resident memory of a fork."""
     table = Table("bytes that are resident, safe 0", scratch)
     for count in LENGTHS[1:]:
-        words = [runs.tower("safe 0", steps, count, scratch), *WORDS]
+        words = [runs.tower_file("safe 0", steps, count, scratch), *WORDS]
         look, taken = f"0 state main {count}\n", []
         # A refused fork has a log entry, and nothing else; plain Rust's program has no log
         for line in (f"0 fork main {count} a%d\n", "0 fork main 0 main\n"):
@@ -180,4 +180,4 @@ def random(scratch):
         if line == "safe 0":
             for part in (shared_by_few, shared_by_many, resident):
                 ratios += part(steps, scratch)
-    print(f"  at most 1.0: {sum(it < 1.005 for it in ratios)} of {len(ratios)}")
+    print(f"  at most 1.0: {sum(it < runs.ROUNDED_TO_ONE for it in ratios)} of {len(ratios)}")

@@ -21,6 +21,7 @@ LEAST, MOST, SECONDS = 6, 60, 300
 
 
 def bench_file(branches, steps, scratch):
+    """Writes a bench file of branches that share nothing, and returns its path."""
     path, cycle = f"{scratch}/apart", runs.TOWERS[LINE]
     own = "".join(f"{cycle[at % len(cycle)]}\n" for at in range(steps))
     with open(path, "w", encoding="ascii") as file:

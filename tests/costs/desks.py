@@ -3,21 +3,31 @@ import subprocess
 import time
 
 import built
-from costs.runs import CALLGRIND, SHORT_WRITES, TOWERS, instructions, reported_instructions, tower
+from costs.runs import (
+    CALLGRIND,
+    SHORT_WRITES,
+    TOWERS,
+    instructions,
+    reported_instructions,
+    tower_file,
+)
 
 
 def desk(scratch):
+    """Edits at a desk against edits on a book, and by two threads against one."""
     program = built.build("thread_tests")
 
     def counted(test):
         how = {"stdout": subprocess.DEVNULL, "stderr": subprocess.PIPE, "text": True, "check": True}
         return reported_instructions(
-            subprocess.run([*CALLGRIND, program, f"desks::measured::{test}"], **how).stderr
+            subprocess.run([*CALLGRIND, program, f"desks::many_edits::{test}"], **how).stderr
         )
 
     def clocked(test):
         begun = time.monotonic()
-        subprocess.run([program, f"desks::measured::{test}"], stdout=subprocess.DEVNULL, check=True)
+        subprocess.run(
+            [program, f"desks::many_edits::{test}"], stdout=subprocess.DEVNULL, check=True
+        )
         return time.monotonic() - begun
 
     book, at_desk = counted("on_a_book"), counted("at_a_desk")
@@ -44,7 +54,7 @@ def fills_apart(scratch):
     """Eight branches that share nothing: four fills, and a page of each branch after them,
     twice."""
     line, count = "matrix 2 2 1 3", 12_500
-    path = tower(line, TOWERS[line], count, scratch)
+    path = tower_file(line, TOWERS[line], count, scratch)
     others = [f"b{k}" for k in range(7)]
     apart = "".join(f"0 fork main {count} {name}\n0 detach {name}\n" for name in others)
     # A fill of 64 rounds stores 64 runs of each branch, and a branch has some 98 or up to twice as
@@ -79,15 +89,15 @@ def fills_shared(scratch):
         (500, 100_000),
         (1_000, 100_000),
     ):
-        path = tower("safe 0", SHORT_WRITES, count, scratch)
+        path = tower_file("safe 0", SHORT_WRITES, count, scratch)
         words = [path, "--cells", "200000", "--branches", "1024"]
         forks = "".join(f"0 fork main {count} b{k}\n" for k in range(branches - 1))
         opened = instructions(words, forks, scratch)
         segments = count // 128 + 1
         needed = segments // 64 + 1
         first, all_of_them = (
-            instructions(words, forks + "0 fill main\n" * fills, scratch) - opened
-            for fills in (1, needed)
+            instructions(words, forks + "0 fill main\n" * times, scratch) - opened
+            for times in (1, needed)
         )
         print(
             f"  {branches} branches of {count}: {first} the first fill, {all_of_them} all {needed}"

@@ -2,7 +2,7 @@
 import os
 import random
 
-from costs.runs import PAD, SHORT_WRITES, heap_at_reads, instructions, tower
+from costs.runs import PAD, SHORT_WRITES, heap_at_reads, instructions, tower_file
 
 WORDS = ["--cells", "2000000", "--branches", "1024"]
 LENGTHS = (50_000, 100_000, 200_000)
@@ -48,7 +48,7 @@ def row(name, figures):
 def shared(scratch):
     paths = [(count, f"{scratch}/{count}") for count in LENGTHS]
     for count, path in paths:
-        os.replace(tower("safe 0", SHORT_WRITES, count, scratch), path)
+        os.replace(tower_file("safe 0", SHORT_WRITES, count, scratch), path)
     shared_by_length(paths, each_in(scratch))
     shared_by_forks(*paths[1], each_in(scratch))
     bytes_of_a_fork(paths, scratch)

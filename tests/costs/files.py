@@ -1,5 +1,5 @@
 """What files cost that are opened and saved, and what is held of them."""
-from costs.runs import PAD, SHORT_WRITES, heap_at_reads, instructions, tower
+from costs.runs import PAD, SHORT_WRITES, heap_at_reads, instructions, tower_file
 
 
 def bench_file(shared, own, others, scratch):
@@ -66,7 +66,7 @@ def bench(scratch):
 
 def heap(scratch):
     count = 1_000_000
-    path = tower("safe 0", SHORT_WRITES, count, scratch)
+    path = tower_file("safe 0", SHORT_WRITES, count, scratch)
     script = f"0 state main {count}\n{PAD}0 fork main {count} a\n{PAD}0 branches\n"
     reads = heap_at_reads([path, "--cells", "2000000"], script, scratch)
     opened, most = reads[0]

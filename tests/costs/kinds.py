@@ -1,7 +1,7 @@
 """What the costs are on two kinds of schedule, at three sizes, against those of plain Rust."""
 from costs.mixed import mixed_operations, numbers
 from costs.pieces import costs_of
-from costs.runs import PAD, SHORT_WRITES, heap_at_reads
+from costs.runs import PAD, ROUNDED_TO_ONE, SHORT_WRITES, heap_at_reads
 
 WORDS = ["--cells", "2000000", "--branches", "1024"]
 LENGTHS = (10_000, 100_000, 1_000_000)
@@ -40,6 +40,7 @@ PLAIN = {
 
 
 def places(count, below):
+    """Returns random places, the same in each run."""
     drawn = numbers(7)
     return [next(drawn) % below for _ in range(count)]
 
@@ -83,6 +84,7 @@ def measure_one_branch(kind):
 
 
 def forked(count, forks):
+    """Returns lines that fork a branch at its end, that many times."""
     return "".join(f"0 fork main {count} a{i}\n" for i in range(forks))
 
 
@@ -146,4 +148,4 @@ def kinds(scratch):
                 + "".join(f"{it:8.2f}" for it in against),
                 flush=True,
             )
-    print(f"  at most 1.0: {sum(it < 1.005 for it in ratios)} of {len(ratios)}")
+    print(f"  at most 1.0: {sum(it < ROUNDED_TO_ONE for it in ratios)} of {len(ratios)}")

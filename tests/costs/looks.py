@@ -1,10 +1,10 @@
 """What looks at a settled branch cost, and the commands of a session there."""
-from costs.runs import READ, SHORT_WRITES, TOWERS, WRITE, instructions, tower, varied
+from costs.runs import READ, SHORT_WRITES, TOWERS, WRITE, instructions, tower_file, varied
 
 
 def pages(scratch):
     count = 100_000
-    path = tower("safe 0", SHORT_WRITES, count, scratch)
+    path = tower_file("safe 0", SHORT_WRITES, count, scratch)
     words = [path, "--cells", "200000"]
     page = f"0 state main {count}\n"
     lines = [
@@ -30,7 +30,7 @@ def looks(scratch):
     for kind in ("state", "history", "verdict"):
         figures = []
         for count in (10_000, 20_000, 40_000):
-            path = tower("safe 0", WRITE + READ, count, scratch)
+            path = tower_file("safe 0", WRITE + READ, count, scratch)
             script = f"0 state main {count}\n"
             once = instructions([path], script, scratch)
             figures.append(
@@ -41,7 +41,7 @@ def looks(scratch):
 
 def lens(scratch):
     line, count, runs, deep = "stamped 4 3", 100_000, range(34), range(96, 128)
-    path = tower(line, varied(TOWERS[line], count), count, scratch)
+    path = tower_file(line, varied(TOWERS[line], count), count, scratch)
     words, first = [path, "--cells", "200000"], f"0 state main {128 * len(runs)}\n"
 
     def cost_at(places):
@@ -52,10 +52,11 @@ def lens(scratch):
     ends = cost_at([128 * k for k in runs for _ in deep])
     next_to = cost_at([128 * k + place for k in runs for place in deep])
     apart = cost_at([128 * k + place for place in deep for k in runs])
-    looks = len(runs) * len(deep)
+    count_of_looks = len(runs) * len(deep)
+    near, far = (next_to - ends) / count_of_looks, (apart - ends) / count_of_looks
     print(
-        f"instructions of {looks} looks at deep places of {line}, more than a look at the end of a run: "
-        f"{(next_to - ends) / looks:.0f} each after its neighbour, {(apart - ends) / looks:.0f} without one, "
+        f"instructions of {count_of_looks} looks at deep places of {line}, more than a look at the end of a run: "
+        f"{near:.0f} each after its neighbour, {far:.0f} without one, "
         f"{(apart - ends) / (next_to - ends):.2f} times as many"
     )
 
@@ -69,7 +70,7 @@ def sessions(scratch):
     for kind in ("returns 9", "bit 9 1"):
         figures = []
         for count in counts:
-            path = tower("safe 0", WRITE + READ, count, scratch)
+            path = tower_file("safe 0", WRITE + READ, count, scratch)
             script = f"{begun[count]}0 break {kind}\n"
             figures.append(
                 (
@@ -83,7 +84,7 @@ def sessions(scratch):
     for kind in ("join", "go main 5000", "break void", "cursor"):
         figures = []
         for count in counts:
-            path = tower("safe 0", WRITE + READ, count, scratch)
+            path = tower_file("safe 0", WRITE + READ, count, scratch)
             line = f"0 {kind}\n"
             few, many = (instructions([path], begun[count] + line * n, scratch) for n in (1, 101))
             figures.append((many - few) / 100)

@@ -3,7 +3,7 @@ alone."""
 import subprocess
 
 from costs import runs
-from costs.runs import CALLGRIND, instructions, reported_instructions, tower
+from costs.runs import CALLGRIND, instructions, reported_instructions, tower_file
 
 LENGTHS = (10_000, 100_000, 1_000_000)
 COMMANDS = 200
@@ -41,7 +41,7 @@ def mixed(scratch):
         "a replacement in the middle, and the page, in all": [],
     }
     for count in LENGTHS:
-        path = tower("safe 0", mixed_operations(count), count, scratch)
+        path = tower_file("safe 0", mixed_operations(count), count, scratch)
         page, edit = f"0 state main {count}\n", f"0 replace main {count // 2} g 0 1\n"
 
         def cost(script):

@@ -8,7 +8,10 @@ from costs import runs
 
 # The last line of a piece. No branch is so long, so that its answer is one line.
 LAST = "0 state main 99999999\n"
+# How many lines are written before their answers are read.
 MOST_LINES = 1_000
+# The lines of a page of the state after its first one: two processes, the bits and the words.
+STATE_LINES = 4
 
 
 def run_by_pieces(command, pieces):
@@ -29,7 +32,8 @@ def run_by_pieces(command, pieces):
                 is_last = first + MOST_LINES >= len(lines)
                 program.stdin.write("".join(part) + (LAST if is_last else ""))
                 program.stdin.flush()
-                for _ in range(len(part) + is_last + 4 * sum(" state " in it for it in part)):
+                states = sum(" state " in it for it in part)
+                for _ in range(len(part) + is_last + STATE_LINES * states):
                     program.stdout.readline()
             yield program.pid
         program.stdin.close()

@@ -2,7 +2,7 @@
 import os
 import random
 
-from costs.runs import SHORT_WRITES, TOWERS, instructions, tower
+from costs.runs import SHORT_WRITES, TOWERS, instructions, tower_file
 from costs.steps import OPERATIONS, whole_operations
 
 # Instructions of the same program in plain Rust, which wrote the same bytes: each of its segments
@@ -42,7 +42,7 @@ class Plain:
 
     def file_of(self, line, cycle, count, name):
         path = f"{self.scratch}/{name}"
-        os.replace(tower(line, cycle, count, self.scratch), path)
+        os.replace(tower_file(line, cycle, count, self.scratch), path)
         return path
 
     def sum_up(self):

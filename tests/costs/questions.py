@@ -4,7 +4,7 @@ import os
 import subprocess
 import sys
 
-from costs.runs import CALLGRIND, TOP, reported_instructions
+from costs.runs import CALLGRIND, TOP, heap_counter, reported_instructions
 
 PROGRAM = f"{TOP}/crates/answers_program/out/answers_program"
 # Questions, with the instructions that a plain Rust program takes which searches the same states,
@@ -54,11 +54,7 @@ def run(path, scratch, prefix=(), env=None):
 
 def most_held(path, scratch):
     """Returns the most bytes that a run holds on the heap."""
-    library = f"{scratch}/count.so"
-    if not os.path.exists(library):
-        source = f"{TOP}/tests/count_heap.c"
-        subprocess.run(["cc", "-O2", "-shared", "-fPIC", "-o", library, source, "-ldl"], check=True)
-    env = {**os.environ, "LD_PRELOAD": library, "HEAP_AT_END": "1"}
+    env = {**os.environ, "LD_PRELOAD": heap_counter(scratch), "HEAP_AT_END": "1"}
     said = run(path, scratch, env=env)[1].splitlines()[-1].split()
     return int(said[2])
 
@@ -86,6 +82,7 @@ def instructions_in(path, function):
 
 
 def question_file(line, scratch):
+    """Writes a question file, whose lines are separated by semicolons here; returns its path."""
     path = f"{scratch}/question"
     with open(path, "w", encoding="ascii") as file:
         file.write(line.replace("; ", "\n") + "\n")
@@ -97,7 +94,7 @@ def questions(scratch):
     print(
         "states; instructions in thousands, of which the search; its ratio to plain Rust's; bytes a state"
     )
-    for line, peer in QUESTIONS:
+    for line, of_plain in QUESTIONS:
         path = question_file(line, scratch)
         output, said = run(path, scratch, (*CALLGRIND[:2], f"--callgrind-out-file={scratch}/calls"))
         states, cost = int(output.split()[1]), reported_instructions(said)
@@ -105,7 +102,7 @@ def questions(scratch):
         if tidied == 0:
             sys.exit("tests/cost: the program has no function that makes schedules easy to read")
         search = cost - tidied
-        ratio = f"{search / peer:8.2f}" if peer else "       -"
+        ratio = f"{search / of_plain:8.2f}" if of_plain else "       -"
         held = most_held(path, scratch) / states
         costs = f"{cost / 1000:12.0f}{search / 1000:12.0f}"
         print(f"  {line:72}{states:8}{costs}{ratio}{held:8.0f}", flush=True)

@@ -2,7 +2,7 @@
 import subprocess
 
 from costs import runs
-from costs.runs import TOWERS, instructions, tower, varied
+from costs.runs import TOWERS, instructions, tower_file, varied
 
 # How many pairs of operations, and the most actions that one of them has.
 OPERATIONS = {
@@ -22,12 +22,12 @@ def steps(scratch):
     for line, cycle in TOWERS.items():
         figures = []
         for count in (3000, 6000, 12000):
-            path = tower(line, cycle, count, scratch)
+            path = tower_file(line, cycle, count, scratch)
             page = f"0 state main {count}\n"
             figures.append(
                 (instructions([path], page, scratch) - instructions([path], "", scratch)) / count
             )
-        path = tower(line, varied(cycle, count), count, scratch)
+        path = tower_file(line, varied(cycle, count), count, scratch)
         # No look is at a run of one of the 32 looks before it, of which the lens may keep places
         rounds = (
             "".join(f"0 state main {128 * k + place}\n" for k in range(80)) * 3
@@ -73,7 +73,7 @@ def whole_operations(line, scratch):
             given += [invoked, "r 1"] + ["g 0 0", "g 1 0"] * actions
         else:
             given += [invoked] + ["g 0 0"] * actions + ["r 1"] + ["g 1 0"] * actions
-    path = tower(line, given, len(given), scratch)
+    path = tower_file(line, given, len(given), scratch)
     with open(f"{scratch}/script", "w") as file:
         file.write(f"0 history main {len(given)}\n")
     with open(f"{scratch}/script") as script_file:
@@ -82,4 +82,4 @@ def whole_operations(line, scratch):
         ).stdout
     void = {int(it.split()[0]) for it in page.splitlines() if " void " in it}
     kept = [step for i, step in enumerate(given) if i not in void]
-    return tower(line, kept, len(kept), scratch)
+    return tower_file(line, kept, len(kept), scratch)

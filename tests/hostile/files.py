@@ -14,6 +14,7 @@ from runs import SECONDS, Ended, end_by_fault, end_of_run, good_end, program
 MOST_BYTES = 2**32
 # A run over a file that is too long takes at most this much memory: a file's limit, and 16 MB.
 MOST_MEMORY = MOST_BYTES + 2**24
+# The number of the user and the group without rights.
 NOBODY = 65534
 
 
@@ -70,14 +71,17 @@ def wanted_end(data):
 
 
 def cuts(data):
+    """Yields the beginnings of a file."""
     for count in range(len(data) + 1):
         yield f"its first {count} bytes", data[:count]
 
 
 def versions(data):
+    """Yields a file with other first lines, each kind of file in four versions."""
     for version in range(4):
         for header in (b"tower", b"bench"):
-            yield f"{header} {version}", b"%s %d" % (header, version) + data[data.index(b"\n") :]
+            first = b"%s %d" % (header, version)
+            yield first.decode(), first + data[data.index(b"\n") :]
 
 
 def next_digit(byte):
@@ -86,6 +90,7 @@ def next_digit(byte):
 
 
 def replacements(data):
+    """Yields a file with each byte replaced by some others."""
     for place, byte in enumerate(data):
         for other in (0x80, 0x00, ord("\n"), ord(" "), next_digit(byte)):
             if other != byte:
@@ -162,6 +167,7 @@ def towers_at_limits():
 
 
 def run_over(path, data):
+    """Runs the reader's script over a file that has these bytes, and returns how the run ended."""
     is_bench = data.startswith(tower_reader.BENCH)
     return end_of_run([path], tower_reader.BENCH_SCRIPT if is_bench else tower_reader.SCRIPT)
 
@@ -207,7 +213,8 @@ def end_and_memory(path):
     return Ended(process.returncode, output, errors), usage.ru_maxrss * 1024
 
 
-def same_in_memory(counts, name, path, want):
+def compare_with_memory(counts, name, path, want):
+    """Compares how a run over a file ends, and whether it takes more memory than it may."""
     got, memory = end_and_memory(path)
     counts.compare(name, got, want)
     is_much = memory > MOST_MEMORY
@@ -227,13 +234,13 @@ def long_files(counts, scratch):
     too_long, path = end_by_fault("file too long"), f"{scratch}/long"
     not_ascii = end_by_fault("file line 1: 10 NotAscii")
     counts.compare("2^32 bytes of 0", end_of_run([sparse_file(path, MOST_BYTES)]), not_ascii)
-    same_in_memory(counts, "2^32 + 1 bytes of 0", sparse_file(path, MOST_BYTES + 1), too_long)
-    same_in_memory(counts, "2^36 bytes of 0", sparse_file(path, 2**36), too_long)
+    compare_with_memory(counts, "2^32 + 1 bytes of 0", sparse_file(path, MOST_BYTES + 1), too_long)
+    compare_with_memory(counts, "2^36 bytes of 0", sparse_file(path, 2**36), too_long)
     os.remove(path)
-    same_in_memory(counts, "/dev/zero", "/dev/zero", too_long)
+    compare_with_memory(counts, "/dev/zero", "/dev/zero", too_long)
     pipe = made_pipe(f"{scratch}/endless")
     feeder = feed_pipe(pipe, endless_tower())
-    same_in_memory(counts, "a named pipe whose writer goes on", pipe, too_long)
+    compare_with_memory(counts, "a named pipe whose writer goes on", pipe, too_long)
     feeder.join(SECONDS)
     wrong = "it still writes" if feeder.is_alive() else None
     counts.count("its writer learns that nobody reads", wrong)

@@ -17,6 +17,7 @@ FULL = "0: refused 24 Full"
 CELLS = ["--cells", str(MOST_CELLS)]
 # The greatest row takes 2 GB.
 MEMORY_NEEDED = 4 * 10**9
+# The row and the measure of each stage that was run.
 MEASURED = []
 
 
@@ -27,6 +28,7 @@ def talk(*pairs):
 
 
 def stage(name, *pairs, of=None, count=None):
+    """Returns a stage of these lines and their answers."""
     return Stage(name, *talk(*pairs), of, count)
 
 
@@ -58,6 +60,7 @@ def edits(*lines, first=1):
 
 
 def refused(answer, *lines):
+    """Returns lines that are all refused, with that answer."""
     return [(line, answer) for line in lines]
 
 

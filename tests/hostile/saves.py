@@ -23,8 +23,9 @@ PAGE = f"0: branches 1 edits 0 made {STEPS}\n  main {STEPS}\n".encode()
 FAILED = end_by_fault("save failed")
 NEW_FILE_SUFFIX = ".towerbench-new"
 KILLS, SEED = 200, 78
-LIMIT, SMALL_DISK = 2**20, 2**23
-MODE = 0o640
+# The limit on a file's size, the size of a small file system, and a file's permissions: other ones
+# than a new file has.
+LIMIT, SMALL_DISK, MODE = 2**20, 2**23, 0o640
 
 
 def write_file(path, data):
@@ -41,11 +42,11 @@ def bytes_at(path):
         return file.read()
 
 
-def words_of(source, path):
+def saving_words(source, path):
     return [source, "--cells", str(STEPS), "--save", path]
 
 
-def same_file(counts, name, path, want, has_left=False):
+def compare_file(counts, name, path, want, has_left=False):
     """Counts whether a file has these bytes, and whether a save has left a new file next to it."""
     got = bytes_at(path)
     wrong = None if got == want else f"it has {'no file' if got is None else f'{len(got)} bytes'}"
@@ -81,9 +82,9 @@ def kills(counts, scratch):
     """200 saves of 20 MB that are killed, and one that isn't."""
     counts.begin("saves: killed")
     chance, path = random.Random(SEED), f"{scratch}/killed"
-    words = words_of(write_file(f"{scratch}/big", NEW), path)
+    words = saving_words(write_file(f"{scratch}/big", NEW), path)
     _, span = killed_save(words, None)
-    same_file(counts, "a save that isn't killed", path, NEW)
+    compare_file(counts, "a save that isn't killed", path, NEW)
     olds = lefts = 0
     for number in range(KILLS):
         write_file(path, OLD)
@@ -100,7 +101,7 @@ def kills(counts, scratch):
     )
     counts.count("some were killed while they wrote", None if lefts else "none was")
     killed_save(words, None)
-    same_file(counts, "a save after them", path, NEW)
+    compare_file(counts, "a save after them", path, NEW)
     counts.end()
 
 
@@ -115,18 +116,18 @@ def full_disk(counts, scratch):
         return
     try:
         path = write_file(f"{disk}/kept", OLD)
-        counts.compare("too much over a file", end_of_run(words_of(source, path)), FAILED)
-        same_file(counts, "the file", path, OLD)
+        counts.compare("too much over a file", end_of_run(saving_words(source, path)), FAILED)
+        compare_file(counts, "the file", path, OLD)
         counts.compare(
-            "too much where nothing is", end_of_run(words_of(source, f"{disk}/none")), FAILED
+            "too much where nothing is", end_of_run(saving_words(source, f"{disk}/none")), FAILED
         )
-        same_file(counts, "nothing", f"{disk}/none", None)
+        compare_file(counts, "nothing", f"{disk}/none", None)
         counts.compare(
             "a little",
-            end_of_run(words_of(write_file(f"{scratch}/little", LITTLE), path)),
+            end_of_run(saving_words(write_file(f"{scratch}/little", LITTLE), path)),
             good_end(b""),
         )
-        same_file(counts, "the little file", path, LITTLE)
+        compare_file(counts, "the little file", path, LITTLE)
     finally:
         subprocess.run(["umount", disk], check=True)
     counts.end()
@@ -144,7 +145,7 @@ def limit_and_ignore_signal():
 def limit(counts, scratch):
     """A limit on the sizes of files, whose signal ends the program unless it is ignored."""
     counts.begin("saves: a file-size limit")
-    words = words_of(f"{scratch}/big", f"{scratch}/limited")
+    words = saving_words(f"{scratch}/big", f"{scratch}/limited")
     by_signal = Ended(-signal.SIGXFSZ, b"", b"")
     for name, how, want in (
         ("with its signal", {"preexec_fn": limit_file_size}, by_signal),
@@ -158,7 +159,7 @@ def limit(counts, scratch):
     ):
         path = write_file(words[-1], OLD)
         counts.compare(name, end_of_run(words, **how), want)
-        same_file(counts, f"the file, {name}", path, OLD, has_left=want is by_signal)
+        compare_file(counts, f"the file, {name}", path, OLD, has_left=want is by_signal)
     counts.end()
 
 
@@ -172,24 +173,23 @@ def links(counts, scratch):
     )
     os.mkdir(f"{scratch}/far")
     os.symlink("far/../real", link)
-    counts.compare("a link to nothing", end_of_run(words_of(source, link)), good_end(b""))
-    same_file(counts, "the file that it made", path, LITTLE)
+    counts.compare("a link to nothing", end_of_run(saving_words(source, link)), good_end(b""))
+    compare_file(counts, "the file that it made", path, LITTLE)
     write_file(path, OLD)
     os.chmod(path, MODE)
-    counts.compare("a link", end_of_run(words_of(source, link)), good_end(b""))
-    same_file(counts, "what it leads to", path, LITTLE)
+    counts.compare("a link", end_of_run(saving_words(source, link)), good_end(b""))
+    compare_file(counts, "what it leads to", path, LITTLE)
     counts.count("it is a link still", None if os.path.islink(link) else "it is none")
     mode = stat.S_IMODE(os.stat(path).st_mode)
     counts.count("its permissions", None if mode == MODE else f"{mode:#o}")
-    counts.compare(
-        "a name of 250 bytes", end_of_run(words_of(source, f"{scratch}/{'a' * 250}")), good_end(b"")
-    )
-    same_file(counts, "the long name", f"{scratch}/{'a' * 250}", LITTLE)
+    long = f"{scratch}/{'a' * 250}"
+    counts.compare("a name of 250 bytes", end_of_run(saving_words(source, long)), good_end(b""))
+    compare_file(counts, "the long name", long, LITTLE)
     with tempfile.TemporaryFile() as file:
         number = file.fileno()
         counts.compare(
             "an open file without a name",
-            end_of_run(words_of(source, f"/dev/fd/{number}"), pass_fds=[number]),
+            end_of_run(saving_words(source, f"/dev/fd/{number}"), pass_fds=[number]),
             good_end(b""),
         )
         counts.count("its bytes", None if file.read() == LITTLE else "others")
@@ -202,7 +202,8 @@ def pipe(counts, scratch):
     path, got = made_pipe(f"{scratch}/pipe"), []
     reader = threading.Thread(target=lambda: got.append(bytes_at(path)), daemon=True)
     reader.start()
-    counts.compare("a save to it", end_of_run(words_of(f"{scratch}/little", path)), good_end(b""))
+    words = saving_words(f"{scratch}/little", path)
+    counts.compare("a save to it", end_of_run(words), good_end(b""))
     reader.join(SECONDS)
     counts.count("its reader's bytes", None if got == [LITTLE] else f"{got}")
     counts.count(
@@ -231,16 +232,16 @@ def folders(counts, scratch):
     os.chmod(closed, 0o555)
     counts.compare(
         "a folder that takes no new file",
-        end_of_run(words_of(f"{scratch}/little", written), **how),
+        end_of_run(saving_words(f"{scratch}/little", written), **how),
         good_end(b""),
     )
-    same_file(counts, "its file", written, LITTLE)
+    compare_file(counts, "its file", written, LITTLE)
     counts.compare(
         "a file that may not be written",
-        end_of_run(words_of(f"{scratch}/little", locked), **how),
+        end_of_run(saving_words(f"{scratch}/little", locked), **how),
         FAILED,
     )
-    same_file(counts, "that file", locked, OLD)
+    compare_file(counts, "that file", locked, OLD)
     counts.end()
 
 

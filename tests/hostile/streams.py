@@ -165,6 +165,7 @@ def lost_input(counts, scratch):
 
 
 def started(words, **how):
+    """Starts a run whose streams are pipes, unless said otherwise."""
     streams = {"stdin": subprocess.PIPE, "stdout": subprocess.PIPE, "stderr": subprocess.PIPE}
     return subprocess.Popen([program(), *words], bufsize=0, **{**streams, **how})
 

@@ -7,6 +7,7 @@ import subprocess
 import built
 from runs import SECONDS, end_of_run, program, shown
 
+# How many seconds a run may take under valgrind.
 UNDER_VALGRIND = 40 * SECONDS
 TOOLS = {
     "memcheck": ["--tool=memcheck", "--leak-check=full", "--errors-for-leak-kinds=definite"],
@@ -37,7 +38,8 @@ TESTS = {
 }
 
 
-def tower(scratch, line):
+def tower_file(scratch, line):
+    """Writes a tower file of a cycle of steps, and returns its path."""
     path = f"{scratch}/tower"
     steps = (CYCLE * (STEPS // len(CYCLE) + 1))[:STEPS]
     with open(path, "w", encoding="ascii") as file:
@@ -92,7 +94,7 @@ def check(counts, name, tool, words, given, want, log, fault=b""):
 def fills(counts, scratch):
     counts.begin("threads: fills by four workers")
     for line in TOWERS:
-        path = tower(scratch, line)
+        path = tower_file(scratch, line)
         alone = end_of_run([path, *LIMITS], script())
         is_good = alone.status == 0 and not alone.errors and not REFUSED.search(alone.output)
         counts.count(f"{line}, by none", None if is_good else f"{alone}")

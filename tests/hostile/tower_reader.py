@@ -24,6 +24,8 @@ FIELDS = {"safe": 1, "copies": 2, "regular": 2, "unary": 3, "stamped": 2, "matri
 NUMBER = re.compile(r"0|[1-9][0-9]{0,8}")
 NAME = re.compile(r"[a-z][a-z0-9]{0,15}")
 LINE = re.compile(r"[^\n]*\n|[^\n]+")
+# The limits of towers: readers, values or codes of a number, and bits.
+MOST_READERS, MOST_VALUES, MOST_BITS = 4, 512, 4096
 # How many numbers a step has after its letter.
 STEPS = {"w": 2, "r": 1, "g": 2, "x": 1}
 
@@ -95,6 +97,7 @@ def branch_of(words, branches, place):
 
 
 def refuse_non_ascii(data):
+    """Raises the fault of the first byte that is neither printable ASCII nor a line's end."""
     for place, byte in enumerate(data):
         if byte != 0x0A and not 0x20 <= byte <= 0x7E:
             raise Fault("NotAscii", 1 + data.count(b"\n", 0, place))
@@ -120,17 +123,19 @@ def is_sized(kind, *numbers):
     if kind == "safe":
         return numbers[0] <= 1
     if kind in ("copies", "regular"):
-        return 1 <= numbers[0] <= 4 and numbers[1] <= 1
+        return 1 <= numbers[0] <= MOST_READERS and numbers[1] <= 1
     if kind == "unary":
         values, readers, init = numbers
-        return 2 <= values <= 512 and 1 <= readers <= 4 and init < values
+        return 2 <= values <= MOST_VALUES and 1 <= readers <= MOST_READERS and init < values
     if kind == "stamped":
         values, last = numbers
-        return 2 <= values <= 512 and last <= 511 and (last + 1) * values <= 512
+        codes = (last + 1) * values
+        return 2 <= values <= MOST_VALUES and last < MOST_VALUES and codes <= MOST_VALUES
     count, values, tag, inner = numbers
     codes = (inner + 1) * (tag + 1) * count * values
-    in_range = 2 <= count <= 4 and 2 <= values <= 512 and tag <= 511 and inner <= 511
-    return in_range and codes <= 512 and count * count * codes <= 4096
+    are_few = 2 <= count <= 4 and 2 <= values <= MOST_VALUES
+    are_low = tag < MOST_VALUES and inner < MOST_VALUES
+    return are_few and are_low and codes <= MOST_VALUES and count**2 * codes <= MOST_BITS
 
 
 def roles_of(kind, numbers):

@@ -17,7 +17,7 @@ Stage = collections.namedtuple("Stage", "name script pieces of count", defaults=
 Measure = collections.namedtuple("Measure", "stage held most seconds")
 
 
-def difference(stream, pieces):
+def difference_on(stream, pieces):
     """Returns how a stream differs from the pieces that are to come on it, or None."""
     place = 0
     for piece in pieces:
@@ -41,7 +41,7 @@ def memory_of(process, kind):
 
 
 def reset_peak(process):
-    """Starts the count of a process's peak memory again."""
+    """Starts the count of a process's peak memory again, which is what a 5 written there does."""
     try:
         with open(f"/proc/{process.pid}/clear_refs", "w", encoding="ascii") as file:
             file.write("5")
@@ -87,7 +87,7 @@ class Watched:
         self.is_begun = True
         self.feeder = threading.Thread(target=self.feed, args=(stage.script,), daemon=True)
         self.feeder.start()
-        wrong = difference(self.process.stdout, stage.pieces)
+        wrong = difference_on(self.process.stdout, stage.pieces)
         most = memory_of(self.process, "VmHWM")
         if wrong:
             self.process.kill()

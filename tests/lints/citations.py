@@ -14,7 +14,7 @@ TOP = os.path.dirname(os.path.dirname(os.path.dirname(os.path.realpath(__file__)
 sys.path[:0] = [f"{TOP}/tests", f"{TOP}/tools"]
 import antt  # noqa: E402
 from antt import WORD, imports_of  # noqa: E402
-from lints.clauses import CLAUSE, code_of, end_of  # noqa: E402
+from lints.clauses import CLAUSE, blanked, end_of  # noqa: E402
 
 NAMED = re.compile(rf"{WORD}(?:\.{WORD})*")
 PUBLIC = re.compile(r"\bpub (?:unsafe )?fn (\w+)|\bfn (\w+)")
@@ -40,22 +40,22 @@ def definitions(path):
 
 @functools.lru_cache(None)
 def file_of(module):
-    """Returns the file of a module of specs/, also if its crate only hands the module on, or
+    """Returns the file of a module of specs/, also if its crate only passes the module on, or
     None."""
     path = f"{TOP}/crates/{module[0]}/specs/{'/'.join(module[1:])}.antt"
     if os.path.isfile(path):
         return path
-    handed = f"{TOP}/crates/{module[0]}/specs/Lib.antt"
-    if len(module) != 2 or not os.path.isfile(handed):
+    listed = f"{TOP}/crates/{module[0]}/specs/Lib.antt"
+    if len(module) != 2 or not os.path.isfile(listed):
         return None
-    with open(handed, encoding="utf-8") as file:
+    with open(listed, encoding="utf-8") as file:
         found = re.search(
             rf"^pub use Rattle\.(\w+)\.specs\.{module[1]}$", file.read(), re.MULTILINE
         )
     return file_of((found.group(1), module[1])) if found else None
 
 
-def found_in(word, own, imports):
+def definition_named(word, own, imports):
     """Returns the definition that a word of a file names, or None: none of this repository's."""
     names, modules = imports
     front, _, last = word.partition(".")
@@ -67,15 +67,16 @@ def found_in(word, own, imports):
     return definitions(path)[0].get(name) if path else None
 
 
-def named_in(text, own, imports):
-    found = [found_in(it, own, imports) for it in NAMED.findall(text)]
+def definitions_named(text, own, imports):
+    """Returns the definitions that the words of a text name."""
+    found = [definition_named(it, own, imports) for it in NAMED.findall(text)]
     return [it for it in found if it]
 
 
 def public_clauses(path):
     """Yields the clauses of a file that others meet."""
     with open(path, encoding="utf-8") as file:
-        code = code_of(file.read())
+        code = blanked(file.read())
     imports = imports_of(code)
     starts = [it.start() for it in METHODS.finditer(code)]
     blocks = [(it, end_of(code, code.index("{", it))) for it in starts]
@@ -90,6 +91,7 @@ def public_clauses(path):
 
 @functools.lru_cache(None)
 def all_clauses():
+    """Returns the public clauses of all crates."""
     paths = sorted(glob.glob(f"{TOP}/crates/*/src/**/*.rt", recursive=True))
     return [it for path in paths for it in public_clauses(path)]
 
@@ -99,10 +101,10 @@ def reached_definitions():
     """Returns the definitions that public clauses reach, each with the first clause that does."""
     found = {}
     for clause in all_clauses():
-        left = named_in(clause.text, {}, clause.imports)
+        left = definitions_named(clause.text, {}, clause.imports)
         while left:
             it = left.pop()
             if (it.path, it.name) not in found:
                 found[it.path, it.name] = it, clause
-                left += named_in("\n".join(it.lines), *definitions(it.path))
+                left += definitions_named("\n".join(it.lines), *definitions(it.path))
     return [found[it] for it in sorted(found, key=lambda it: (it[0], found[it][0].line))]

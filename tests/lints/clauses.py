@@ -15,18 +15,19 @@ import re
 import sys
 
 MOST_COLUMNS, MOST_PARAMETERS = 100, 6
+# The public calls that serve a script
 SERVING = {"serve", "run_saving"}
 TOP = os.path.dirname(os.path.dirname(os.path.dirname(os.path.realpath(__file__))))
 CLAUSE = re.compile(r"\b(?:requires|ensures)\b[^{}\n]*\{")
 FUNCTION = re.compile(r"\bfn (\w+)")
 # What isn't code: texts, single characters, comments; a lifetime is no character.
-PLAIN = re.compile(r'//[^\n]*|b?"(?:[^"\\]|\\.)*"|b?\'(?:[^\'\\\n]|\\.[^\'\n]*)\'', re.DOTALL)
+NO_CODE = re.compile(r'//[^\n]*|b?"(?:[^"\\]|\\.)*"|b?\'(?:[^\'\\\n]|\\.[^\'\n]*)\'', re.DOTALL)
 PAIRS = {"(": ")", "[": "]", "{": "}"}
 
 
-def code_of(text):
+def blanked(text):
     """Returns the text with blanks in place of what isn't code, each line as wide as before."""
-    return PLAIN.sub(lambda found: re.sub(r"[^\n]", " ", found.group()), text)
+    return NO_CODE.sub(lambda found: re.sub(r"[^\n]", " ", found.group()), text)
 
 
 def end_of(code, start):
@@ -95,7 +96,7 @@ def faults_in(path):
     """Yields what is hard to read in a file: where, and what."""
     with open(path, encoding="utf-8") as file:
         text = file.read()
-    code, name = code_of(text), os.path.relpath(path, TOP)
+    code, name = blanked(text), os.path.relpath(path, TOP)
     for line, columns in wide_clauses(text, code):
         yield f"{name}:{line}: a clause is {columns} columns wide"
     for line, function, count in long_functions(code):

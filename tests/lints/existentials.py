@@ -24,8 +24,8 @@ from lints.citations import (  # noqa: E402
     NAMED,
     WORD,
     all_clauses,
+    definition_named,
     definitions,
-    found_in,
     reached_definitions,
 )
 from lints.clauses import crates  # noqa: E402
@@ -44,30 +44,31 @@ EXAMPLE = re.compile(
 Existential = collections.namedtuple("Existential", "crate names where by is_clause")
 
 
-def is_data(kind, parameters, own, imports):
+def is_data(type_text, parameters, own, imports):
     """Returns whether a field of this type is data, and no fact."""
-    head = re.match(rf"\(*({NAMED.pattern})", kind.rpartition("→ ")[2].strip())
-    if not head or FACT.search(kind):
+    head = re.match(rf"\(*({NAMED.pattern})", type_text.rpartition("→ ")[2].strip())
+    if not head or FACT.search(type_text):
         return False
     name = head.group(1)
-    it = found_in(name, own, imports)
+    it = definition_named(name, own, imports)
     if not it:
         is_parameter = re.search(rf"\b{name}\b[^:()]*: Type", parameters)
         return bool(name in DATA or is_parameter or "declared" in imports[0].get(name, ((),))[0])
     if it.kind == "record":
-        return all(kinds_of(it))
+        return all(are_data(it))
     return it.kind == "data" or is_data(it.lines[-1].partition("=")[2], "", *definitions(it.path))
 
 
-def kinds_of(record):
+def are_data(record):
     """Returns for each field of a record whether it is data."""
     fields = re.split(rf"\n? *pub {WORD} :", "\n".join(record.lines[1:]))[1:]
     return [is_data(it, record.lines[0], *definitions(record.path)) for it in fields]
 
 
 def is_existential(it):
-    kinds = kinds_of(it) if it.kind == "record" else []
-    return bool(WITNESS.search("\n".join(it.lines))) or (any(kinds) and not all(kinds))
+    """Returns whether a definition has a witness, or is a record of both data and facts."""
+    found = are_data(it) if it.kind == "record" else []
+    return bool(WITNESS.search("\n".join(it.lines))) or (any(found) and not all(found))
 
 
 def crate_of(path):
@@ -83,13 +84,14 @@ def existentials():
             where = f"{os.path.relpath(it.path, TOP)}:{it.line}"
             by = f"{crate_of(clause.path)}'s {clause.name}"
             found.append(Existential(crate_of(it.path), [it.name], where, by, False))
-    said = {}
+    # Clauses of one crate whose witnesses and facts have the same types say the same
+    alike = {}
     for it in all_clauses():
         witness = WITNESS.search(it.text)
         if witness:
             key = (crate_of(it.path), *TYPES.findall(it.text, witness.start()))
-            said.setdefault(key, []).append(it)
-    for (crate, *_), same in said.items():
+            alike.setdefault(key, []).append(it)
+    for (crate, *_), same in alike.items():
         names, where = [it.name for it in same], os.path.relpath(same[0].path, TOP)
         found.append(Existential(crate, names, where, "its own clause", True))
     return found

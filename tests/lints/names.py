@@ -51,6 +51,7 @@ def shared_names(pattern, names_of):
 
 
 def faults():
+    """Returns each shared name with the files that define it, definitions before items."""
     found = [
         shared_names("*/specs/**/*.antt", antt.public_names),
         shared_names("*/src/**/*.rt", items_of),

@@ -57,6 +57,7 @@ COMMENT = {
 
 
 def part_of(path):
+    """Returns the part of the repository that a path is in: the first whose pattern it has."""
     return next(name for name, pattern in PARTS if fnmatch.fnmatch(path, pattern))
 
 
@@ -110,6 +111,7 @@ def fault():
 
 
 def lower():
+    """Writes the counts of now where they are lower than those that were written down."""
     before, now = kept_counts(), counts()
     with open(KEPT, "w", encoding="utf-8") as file:
         for (part, habit), count in sorted(now.items()):

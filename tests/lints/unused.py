@@ -21,8 +21,7 @@ sys.path.append(f"{TOP}/tools")
 import antt  # noqa: E402
 
 # The names of files of worked examples, and of what wrong bodies miss.
-EXAMPLES = ("Examples", "Rows", "WrongEdits", "VerdictRows", "BenchRows")
-PROOFS = ".antt"
+EXAMPLES = ("Examples", "Rows", "WrongEdits", "VerdictExamples", "BenchRows")
 READ = (
     "proofs/**/*.antt",
     "specs/**/*.antt",
@@ -30,6 +29,7 @@ READ = (
     "must-fail/*.edit",
     "must-fail-in-turn/**/*.edit",
 )
+# The paths of files whose names are looked at, and that file's name.
 LEMMAS = re.compile(r"crates/[^/]+/(?:proofs/(?:[a-z]\w*/)?|specs/(?:\w+/)*)([A-Z]\w*)\.antt")
 # The names of files that answer goals, which a function right in lib.rt has in such a folder too.
 ANSWERS = ("Answers", "Invariants", "Proof")
@@ -63,11 +63,11 @@ def texts():
     return found
 
 
-def code_of(path, text):
+def lines_with_names(path, text):
     """Returns the lines of a file in which a name is a use or a definition."""
     lines = (
-        antt.code_of(text)
-        if path.endswith(PROOFS)
+        antt.lines_without_comments(text)
+        if path.endswith(".antt")
         else [it.partition("//")[0] for it in text.split("\n")]
     )
     return [it for it in lines if not it.strip().startswith(("use ", "ghost use "))]
@@ -94,7 +94,7 @@ def own_uses(text):
 def unused(files):
     """Returns the path and the name of each lemma that nothing uses; files: the texts by their
     paths."""
-    code = {path: code_of(path, text) for path, text in files.items()}
+    code = {path: lines_with_names(path, text) for path, text in files.items()}
     uses = collections.Counter(
         token for lines in code.values() for line in lines for token in TOKEN.findall(line)
     )

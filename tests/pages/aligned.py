@@ -10,9 +10,9 @@ import tempfile
 
 from commands import output_of
 from pages import build
-from trials import Test
+from trials import Test, in_short
 
-SEED, COUNT, STEPS, SHOWN = 7, 20, 40, 3
+SEED, COUNT, STEPS = 7, 20, 40
 FIRST = ("unary 2 1 0", "stamped 2 20", "regular 1 1", "unary 4 1 2")
 # lesson 5's unary schedule, whose second read is the older value
 INVERSION = (
@@ -22,6 +22,7 @@ INVERSION = (
 
 
 def random_schedule(chance, tower):
+    """Returns a tower and random steps of its writer and of one reader."""
     values, process, steps = int(tower.split()[1]) if "regular" not in tower else 2, 0, []
     for _ in range(STEPS):
         if chance.random() < 0.33:
@@ -59,6 +60,8 @@ def order_of_events(found, at_once):
 
 
 def fault_of(tower, other, first, second):
+    """Returns in which order operations begin and end on two towers, by their histories; None: in
+    the same."""
     there, here = operations(first), operations(second)
     at_once = {index for index, (_, _, begun, ended) in enumerate(here) if begun == ended}
     was, became = order_of_events(there, at_once), order_of_events(here, at_once)
@@ -89,7 +92,7 @@ def fault_of_transfers():
     reads = [line.split()[-1] for line in stamped if " p1 return " in line]
     if reads != ["1", "1"]:
         faults.append(f"lesson 5 on a stamped register reads {reads}")
-    return f"{len(faults)} of {len(made)}: {'; '.join(faults[:SHOWN])}"[:900] if faults else None
+    return in_short(faults, len(made))
 
 
 def tests():

@@ -7,13 +7,12 @@ lesson 5's four and three lists, say.
 import json
 import re
 
-from pages.live import TRIES, expect, expect_equal
+from pages.opened_page import LESSON_DRAWN, TRIES, expect, expect_equal
 from pages.reader import Reader
 
 # a search takes at most 120 seconds for each of three limits
 MOST_TRIES = 10 * TRIES
 FOUND = "document.querySelector('[data-find-again]')"
-DRAWN = "'drawn' in document.querySelector('#study-text').dataset"
 # each lesson's question: the register, each list that can be guessed or found, and whether it has a
 # schedule
 ASKED = {
@@ -62,7 +61,7 @@ def open_lesson(page, folder):
     page.do("study")
     page.click(f'#study-list [data-study="{folder}"]')
     page.until(
-        f"{DRAWN} && document.querySelector('#study-list [data-study=\\'{folder}\\'][aria-current]')"
+        f"{LESSON_DRAWN} && document.querySelector('#study-list [data-study=\\'{folder}\\'][aria-current]')"
     )
 
 

@@ -1,13 +1,12 @@
 """What a person does to see the layers of a tower, and what the page then shows and asks."""
 import cases
-from pages.live import expect, expect_equal
+from pages.opened_page import LESSON_DRAWN, expect, expect_equal
 
+# Parts of lessons
 INVERSION = "lessons/05-new-old-inversion/unary"
-STAMPED, UNARY, MATRIX = (
-    "lessons/05-new-old-inversion/stamped",
-    "lessons/04-unary-number/unary",
-    "lessons/08-matrix/matrix",
-)
+STAMPED = "lessons/05-new-old-inversion/stamped"
+UNARY = "lessons/04-unary-number/unary"
+MATRIX = "lessons/08-matrix/matrix"
 NESTS = "[...document.querySelectorAll('.nest')].filter((it) => it.dataset.process === '%d').map((it) => it.dataset.nest)"
 LONG = "tower 2\nsafe 0\n" + "w 0 1\ng 0 0\nr 1\ng 1 0\ng 1 1\ng 0 0\n" * 5000
 FOUR = "".join(
@@ -44,7 +43,8 @@ MOST_SPENT = {
 }
 
 
-def opened(page, name, script="0 join\n"):
+def open_tower(page, name, script="0 join\n"):
+    """Opens the tower file of a part of a lesson with a script."""
     page.open(cases.read(f"{name}.tower").decode(), script)
 
 
@@ -56,10 +56,12 @@ def spent(page):
 
 
 def nests(page, process):
+    """Returns the layers of which inner operations of a process are drawn."""
     return set(page.value(NESTS % process))
 
 
 def click_in(page, selector):
+    """Clicks on what a selector finds, even if it is scrolled out of sight."""
     page.value(
         f"document.querySelector({selector!r}).dispatchEvent(new MouseEvent('click', {{ bubbles: true }}))"
     )
@@ -68,7 +70,7 @@ def click_in(page, selector):
 
 def layers(page):
     """The choice of depth, its keys, and clicks on bars, which open and close the layers below."""
-    opened(page, MATRIX)
+    open_tower(page, MATRIX)
     expect_equal(page.texts("#depth option"), ["operations", "+ registers", "+ numbers", "+ bits"])
     expect_equal(nests(page, 0), {"stamped"})
     page.fill("#depth", "3")
@@ -82,7 +84,7 @@ def layers(page):
     expect_equal((nests(page, 0), nests(page, 1)), ({"stamped", "unary"}, {"stamped"}))
     click_in(page, '.operation.write[data-process="0"]')
     expect_equal(nests(page, 0), set())
-    opened(page, STAMPED)
+    open_tower(page, STAMPED)
     expect_equal(nests(page, 1), {"unary", "regular"})
     page.open("tower 2\nsafe 0\n")
     expect(page.value("document.querySelector('#depth').hidden"), "a safe bit has layers")
@@ -91,7 +93,7 @@ def layers(page):
 def reasons(page):
     """A click on a read says why it gave its value, and lights what it names; another opens the
     layer below."""
-    opened(page, STAMPED)
+    open_tower(page, STAMPED)
     click_in(page, '.operation.read[data-at="13"]')
     expect(
         "Its scan read bit 0, hit, chosen 1: so it found code 0 = stamp 0, value 0. But p1 remembered code 3 = "
@@ -109,13 +111,13 @@ def reasons(page):
     expect_equal(page.text(".operation.read[data-at='13'] .op"), "found 0, kept 3")
     # what gave the value isn't what the scan found, but what was remembered when it began
     expect_equal(page.texts(".source title"), ["code 3 = stamp 1, value 1"])
-    opened(page, UNARY)
+    open_tower(page, UNARY)
     click_in(page, ".operation.read")
     expect(
         "Its scan read bit 0" in page.said() and "the first 1 that it found is bit" in page.said(),
         page.said(),
     )
-    opened(page, MATRIX, "0 join\n0 go main 74\n")
+    open_tower(page, MATRIX, "0 join\n0 go main 74\n")
     click_in(page, '.operation.read[data-process="0"]')
     expect(
         "It read its column: R[0][0]: tag 1, p0 wrote 1; R[1][0]: tag 1, p1 wrote 0. The greatest is tag 1, p1 wrote 0, in "
@@ -140,7 +142,7 @@ def reasons(page):
 def square(page):
     """A matrix is a square at the cursor's place, in which the column or the row in work is
     marked."""
-    opened(page, MATRIX, "0 join\n0 go main 74\n")
+    open_tower(page, MATRIX, "0 join\n0 go main 74\n")
     cells = page.value(
         "[...document.querySelectorAll('.memory')].map((it) => [it.dataset.register, it.className])"
     )
@@ -159,7 +161,7 @@ def square(page):
 def scale(page):
     """The elastic axis shows all steps of lesson 8; a click between two steps goes to their place;
     columns can be equal or wider."""
-    opened(page, MATRIX)
+    open_tower(page, MATRIX)
     widths = page.value(
         "[...document.querySelectorAll('.chip rect')].map((it) => Number(it.getAttribute('width')))"
     )
@@ -180,7 +182,7 @@ def scale(page):
     y = page.value(
         "document.querySelector('.strip.lanes .drawn').getBoundingClientRect().bottom - 3"
     )
-    page.chrome.click(x, y)
+    page.browser.click(x, y)
     page.wait()
     expect_equal(page.place(), "main, place 26 of 93")
     page.do("equal")
@@ -236,7 +238,7 @@ def refusals(page):
 def two_towers(page):
     """Below a unary number the same operations are done on a stamped register, without lesson 5's
     inversion; they follow an edit."""
-    opened(page, INVERSION)
+    open_tower(page, INVERSION)
     expect_equal(
         page.texts("#second-tower option"),
         ["and on\u2026", "and safe 0", "and regular 1 0", "and stamped 2 1"],
@@ -244,7 +246,7 @@ def two_towers(page):
     # the lesson has a button for it
     page.do("study")
     page.click("[data-study='05-new-old-inversion']")
-    page.until("'drawn' in document.querySelector('#study-text').dataset")
+    page.until(LESSON_DRAWN)
     page.click("[data-second='stamped 2 1']")
     page.until("!document.querySelector('#second').hidden")
     expect_equal(page.texts(".panel .verdict text"), ["1 \u25d0 overlap", "0 \u25cf fresh"])
@@ -261,7 +263,7 @@ def two_towers(page):
     expect_equal(page.count("#second .operation.read"), 3)
     page.fill("#second-tower", "")
     expect(page.value("document.querySelector('#second').hidden"), "the second tower stays")
-    opened(page, MATRIX)
+    open_tower(page, MATRIX)
     expect(
         page.value("document.querySelector('#second-tower').hidden"), "a matrix has a second tower"
     )
@@ -287,7 +289,7 @@ def counted_pages(page):
         page.value("document.querySelector('#scroll').focus()")
         cost(page, lambda: page.key(name), schedule, gesture)
 
-    opened(page, MATRIX)
+    open_tower(page, MATRIX)
     expect(spent(page)[0] <= 300, f"lesson 8 asks for {spent(page)[0]} pages")
     for name in ("ArrowLeft", "+", "+", "-", "ArrowLeft", "Home"):
         focused_key(name, "lesson 8", "a move")

@@ -4,8 +4,8 @@ import random
 import re
 
 import cases
-from pages.inside import Inside, Tower
-from pages.live import expect, expect_equal
+from pages.layer_reader import Inside, Tower
+from pages.opened_page import expect, expect_equal
 from pages.reader import NO_TOWER, Reader, bit_actions, overlapped
 
 MARKS = """(() => { const panel = document.querySelector(".panel.focus"), all = (name) => [...panel.querySelectorAll(name)];
@@ -35,7 +35,8 @@ INSIDE = """(() => { const panel = document.querySelector(".panel.focus"), all =
       [...number(box, ["from", "to"]), words(box), Boolean(box.querySelector(".written"))])])]; })()"""
 KINDS = ("chosen", "void", "stop", "refused")
 SEED = 5
-MOVES = 40
+# How many gestures are made on each tower, and after how many the marks are compared
+MOVES, MOVES_PER_COMPARISON = 40, 5
 TOWERS = ("safe 1", "copies 2 0", "regular 3 1", "unary 3 1 2", "stamped 2 2", "matrix 2 2 0 1")
 # what a person may click on; how often each is clicked
 CLICKABLE = """[...document.querySelectorAll("#processes button:enabled, #breaks > button:enabled, .panel h2 button, .chip, " +
@@ -166,7 +167,7 @@ def compare(page, reader, name):
     return last - first
 
 
-def lit_writes(page, reader, name):
+def compare_lit_writes(page, reader, name):
     """Clicks on each read that returned, and compares the writes that light up and the first word
     of the sentence."""
     found, length = reader.branch(name)
@@ -234,7 +235,7 @@ def documents(page, program, names):
         for name in reader.lengths:
             page.fill("#show", f"only {name}" if len(reader.lengths) > 1 else "all")
             drawn += compare(page, reader, name)
-            reads += lit_writes(page, reader, name)
+            reads += compare_lit_writes(page, reader, name)
     expect(drawn > 300 and reads > 30, f"only {drawn} steps and {reads} reads were drawn")
 
 
@@ -273,7 +274,7 @@ def walks(page, program):
         page.open(f"tower 2\n{tower}\n")
         for index in range(MOVES):
             walk(page, chance)
-            if index % 5 == 4:
+            if (index + 1) % MOVES_PER_COMPARISON == 0:
                 name = page.place().split(",")[0]
                 drawn += compare(page, Reader(program, *page.document()), name)
     expect(drawn > 200, f"only {drawn} steps were drawn")

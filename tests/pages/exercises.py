@@ -4,11 +4,10 @@ import json
 import re
 
 import cases
-from pages.live import expect, expect_equal
+from pages.opened_page import LESSON_DRAWN, expect, expect_equal
 
 STEP = re.compile(r"(insert|replace) (\w+) (\d+) (.+)")
 MET = "[...document.querySelectorAll('#task [data-met]')].map((it) => it.dataset.met)"
-DRAWN = "'drawn' in document.querySelector('#study-text').dataset"
 DONE = "document.querySelector('#task [role=status]')"
 
 
@@ -69,10 +68,12 @@ def commands(path):
     return [it.partition(" ")[2] for it in lines if it and not it.startswith("#")]
 
 
-def open_lesson(page):
+def open_own_lesson(page):
     """Opens the lesson of the open document, and waits until its pictures are drawn."""
     page.do("study")
-    page.until(f"document.body.classList.contains('studying') && {DRAWN}", "the lesson isn't shown")
+    page.until(
+        f"document.body.classList.contains('studying') && {LESSON_DRAWN}", "the lesson isn't shown"
+    )
 
 
 def predict(page, begin):
@@ -113,7 +114,7 @@ def solved_by_clicks(page):
     """Each exercise is unmet at its start, and done once it is solved by clicks; its lesson then
     says so."""
     page.open()
-    open_lesson(page)
+    open_own_lesson(page)
     folders = page.value(
         "[...document.querySelectorAll('#study-list [data-study]')].map((it) => it.dataset.study)"
     )
@@ -121,7 +122,7 @@ def solved_by_clicks(page):
     for folder in folders:
         page.click(f'#study-list [data-study="{folder}"]')
         page.until(
-            f"{DRAWN} && document.querySelector('#study-list [data-study=\\'{folder}\\'][aria-current]')"
+            f"{LESSON_DRAWN} && document.querySelector('#study-list [data-study=\\'{folder}\\'][aria-current]')"
         )
         begins = page.value(
             "[...document.querySelectorAll('[data-begin]')].map((it) => it.dataset.begin)"
@@ -129,7 +130,7 @@ def solved_by_clicks(page):
         expect_equal(sorted({it.split()[1] for it in begins}), ["1", "2", "3"], folder)
         for begin in begins:
             solve(page, folder, begin)
-            open_lesson(page)
+            open_own_lesson(page)
         expect_equal(page.count(".begin .met"), 3, folder)
 
 
@@ -137,7 +138,7 @@ def wrong_choice(page):
     """A prediction that isn't right is marked, with the one that is; until then what reads give is
     covered."""
     page.open()
-    open_lesson(page)
+    open_own_lesson(page)
     page.until(
         "document.querySelector('article.covered .verdict')", "a lesson's picture isn't covered"
     )

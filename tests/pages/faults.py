@@ -6,7 +6,7 @@ import tempfile
 import cases
 from pages import build
 from pages.gestures import BEFORE_ITS_END, ONE_READ
-from pages.live import expect, expect_equal
+from pages.opened_page import expect, expect_equal
 from pages.reader import Reader
 
 # A module whose one function has this code, of WebAssembly's instructions; its memory is the
@@ -94,7 +94,7 @@ def page_with(page, folder, code):
     path = f"{folder}/{code}.html"
     with open(path, "w", encoding="utf-8") as file:
         file.write(build.packed({"program": written_module(folder, code)}))
-    page.chrome.open(f"file://{path}")
+    page.browser.open(f"file://{path}")
 
 
 def other_programs(page):
@@ -116,7 +116,7 @@ def other_programs(page):
 
 
 def opened_between(page, *document):
-    page.chrome.ask("Page.addScriptToEvaluateOnNewDocument", source=BETWEEN + DAMAGE)
+    page.browser.ask("Page.addScriptToEvaluateOnNewDocument", source=BETWEEN + DAMAGE)
     page.open(*document)
 
 

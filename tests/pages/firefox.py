@@ -15,6 +15,7 @@ LISTENS = re.compile(r"WebDriver BiDi listening on ws://127\.0\.0\.1:(\d+)")
 KEYS = {"Enter": "\ue007", "Escape": "\ue00c", "Delete": "\ue017"}
 MOVES = ("End", "Home", "ArrowLeft", "ArrowUp", "ArrowRight", "ArrowDown")
 KEYS.update((key, chr(0xE010 + place)) for place, key in enumerate(MOVES))
+# the keys that are held, by Chromium's bits for them: Control and Shift
 MODIFIERS = {2: "\ue009", 8: "\ue008"}
 
 

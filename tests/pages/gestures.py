@@ -7,7 +7,7 @@ import xml.dom.minidom
 
 import cases
 from pages.chromium import CONTROL
-from pages.live import expect, expect_equal
+from pages.opened_page import expect, expect_equal
 from pages.reader import Reader, program_answers
 
 LESSON = "lessons/01-safe-bit/safe"
@@ -78,6 +78,7 @@ def lesson_by_clicks(page, program):
 
 
 def undo_and_redo(page, script):
+    """Takes back all gestures, and brings them again."""
     gestures = 0
     while not page.value("document.querySelector('#undo').disabled"):
         page.do("undo")
@@ -125,13 +126,12 @@ def steps(page):
     """What the menu of a step has: remove, replace, flip, insert before, fork, the other choice on
     a branch."""
     page.open(ONE_READ + "g 1 0\n")
-    for action, line in (
-        ("flip", "replace main 4 g 1 1"),
-        ("remove", "remove main 3"),
-        ("before", "go main 2"),
-        ("try", "fork main 3 other"),
+    for action, step, line in (
+        ("flip", 4, "replace main 4 g 1 1"),
+        ("remove", 3, "remove main 3"),
+        ("before", 2, "go main 2"),
+        ("try", 3, "fork main 3 other"),
     ):
-        step = {"flip": 4, "remove": 3, "before": 2, "try": 3}[action]
         page.click(f'.panel[data-branch=main] .chip[data-step="{step}"]')
         page.click(f'#menu [data-step-action="{action}"]')
         expect(f"0 {line}\n" in page.script(), f"{action}: {page.script()}")
@@ -203,7 +203,7 @@ def keyboard(page):
     answers come."""
     page.open(ONE_READ, BEFORE_ITS_END)
     for name in ("1", "g", "0", "ArrowLeft", "o", "ArrowUp", "0", "g", "w", "1", "e", "ArrowLeft"):
-        page.chrome.press(name)
+        page.browser.press(name)
     page.until("document.querySelector('#at').textContent === 'main, place 8 of 9'")
     page.wait()
     script = page.script()
@@ -234,7 +234,7 @@ def files(page, program):
     the document."""
     page.open(ONE_READ, "0 join\n0 fork main 4 other\n0 insert other 4 g 1 1\n")
     with tempfile.TemporaryDirectory() as scratch:
-        page.chrome.ask("Browser.setDownloadBehavior", behavior="allow", downloadPath=scratch)
+        page.browser.ask("Browser.setDownloadBehavior", behavior="allow", downloadPath=scratch)
         folder = pathlib.Path(scratch)
         for kind, ending in (
             ("script", "script"),
@@ -264,7 +264,7 @@ def files(page, program):
             "the picture isn't whole",
         )
     page.value("new Promise((done) => setTimeout(done, 500))")
-    page.chrome.ask("Page.reload")
+    page.browser.ask("Page.reload")
     page.until("document.readyState === 'complete'")
     page.wait()
     expect_equal(page.document(), [tower, script], "after a reload")
@@ -272,13 +272,14 @@ def files(page, program):
 
 
 def open_files(page):
+    """Opens a bench file by the dialog, and drops a tower file and a script."""
     page.do("chooseOpen")
-    node = page.chrome.ask(
+    node = page.browser.ask(
         "DOM.querySelector",
-        nodeId=page.chrome.ask("DOM.getDocument")["root"]["nodeId"],
+        nodeId=page.browser.ask("DOM.getDocument")["root"]["nodeId"],
         selector="#files",
     )["nodeId"]
-    page.chrome.ask(
+    page.browser.ask(
         "DOM.setFileInputFiles",
         nodeId=node,
         files=[str(pathlib.Path("tests/rows/benches/bench-file.bench").resolve())],
@@ -354,7 +355,7 @@ def tower_limits(page):
         expect_equal(page.document()[0], f"tower 2\n{' '.join(map(str, (kind, *numbers)))}\n")
 
 
-def copies(page):
+def copied_script(page):
     """The script is copied."""
     page.open(ONE_READ, BEFORE_ITS_END)
     page.value(

@@ -17,9 +17,9 @@ from concurrent.futures import ThreadPoolExecutor
 import cases
 from commands import output_of
 from pages import build
-from trials import Test
+from trials import Test, in_short
 
-SEED, CHAINS, CHANGES, SHOWN = 5, 40, 40, 3
+SEED, CHAINS, CHANGES = 5, 40, 40
 TOWERS = {
     "safe 0": ("w 0 1", "r 1", "g 0 0", "g 1 1", "x 0"),
     "copies 2 1": ("w 0 0", "r 2", "g 0 0", "g 2 0", "x 1"),
@@ -177,7 +177,7 @@ def fault_of_branches(program):
         for fault in [fault_of_link(link, each)]
         if fault
     ]
-    return f"{len(faults)} of {len(links)}: {'; '.join(faults[:SHOWN])}"[:900] if faults else None
+    return in_short(faults, len(links))
 
 
 def tests(program):

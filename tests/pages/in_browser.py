@@ -10,6 +10,7 @@ from pages import (
     answers,
     build,
     chromium,
+    click_costs,
     depths,
     drawn,
     exercises,
@@ -17,10 +18,10 @@ from pages import (
     firefox,
     gestures,
     lessons,
+    screens,
     sharing,
-    sizes,
 )
-from pages.live import Page
+from pages.opened_page import Page
 from trials import Test
 
 ALL = {
@@ -36,7 +37,7 @@ ALL = {
         "sessions",
         "typed",
         "tower_limits",
-        "copies",
+        "copied_script",
         "paper",
     ),
     "depths": ("layers", "reasons", "square", "scale", "refusals", "two_towers", "counted_pages"),
@@ -45,7 +46,7 @@ ALL = {
     "lessons": (
         "lessons",
         "lesson_links",
-        "exercises",
+        "own_exercises",
         "a_lesson_line_by_line",
         "lesson_on_paper",
         "policy",
@@ -58,12 +59,11 @@ ALL = {
         "which_tower",
         "forty_files",
         "judged_by",
-        "words",
-        "room",
         "hostile_documents",
     ),
     "faults": ("other_programs", "no_answer", "damaged_files", "damaged_answers"),
-    "sizes": ("long_schedules", "large_documents"),
+    "screens": ("words", "room"),
+    "click_costs": ("long_schedules", "large_documents"),
 }
 # What needs more than the driver of Firefox has.
 IN_CHROMIUM_ALONE = {
@@ -72,7 +72,7 @@ IN_CHROMIUM_ALONE = {
     "paper",
     "walks",
     "goals_in_words",
-    "exercises",
+    "own_exercises",
     "lesson_on_paper",
     "policy",
     "short_links",
@@ -82,7 +82,7 @@ IN_CHROMIUM_ALONE = {
     "hostile_documents",
     *ALL["depths"],
     *ALL["faults"],
-    *ALL["sizes"],
+    *ALL["click_costs"],
 }
 IN_FIREFOX = {
     module: tuple(it for it in names if it not in IN_CHROMIUM_ALONE)
@@ -100,8 +100,9 @@ MODULES = {
     "exercises": exercises,
     "lessons": lessons,
     "faults": faults,
+    "screens": screens,
     "sharing": sharing,
-    "sizes": sizes,
+    "click_costs": click_costs,
 }
 
 

@@ -5,6 +5,7 @@ A row about a file of the machine, such as /dev/full, is tried with a substitute
 """
 import base64
 import collections
+import errno
 import functools
 import json
 import os
@@ -18,13 +19,13 @@ import cases
 from pages import build, random_inputs
 from trials import Test
 
-IS_A_FOLDER, IS_FULL, NO_FILE = 21, 28, 2
+# In place of files of the machine: bytes, or how page/machine.js is to fail
 SUBSTITUTES = {
-    "/": {"error": IS_A_FOLDER},
-    "/dev": {"error": IS_A_FOLDER},
-    "/dev/full": {"error": IS_FULL},
+    "/": {"error": errno.EISDIR},
+    "/dev": {"error": errno.EISDIR},
+    "/dev/full": {"error": errno.ENOSPC},
     "/dev/null": "",
-    "/no/such/folder/kept": {"refused": NO_FILE},
+    "/no/such/folder/kept": {"refused": errno.ENOENT},
 }
 SEED, COUNT, SHOWN = 20, 2000, 3
 # little more than the module begins with
@@ -41,6 +42,7 @@ def base64_of(data):
 
 
 def ended_in(line):
+    """Returns how a run ended, by the line that tests/pages/runs.mjs prints of it."""
     it = json.loads(line)
     if "fault" in it:
         return Ended(None, b"", b"", {}, it["fault"])
@@ -105,7 +107,7 @@ def run_of(case):
     return Run([b"towerbench", *map(os.fsencode, words)], files, cases.read(case.script))
 
 
-class Cases:
+class CasesInModule:
     """All cases in the module, which are run at once when the first is asked for."""
 
     def __init__(self, names, scratch):
@@ -146,6 +148,7 @@ def run_native(program, given, folder):
 
 
 def run_of_input(given):
+    """Returns a random input's run in the module."""
     words = [
         b"towerbench",
         b"--workers",
@@ -192,15 +195,15 @@ def fault_of_little_memory(names, scratch):
     return "; ".join(faults[:SHOWN]) or (None if are_short else "no run is short of memory")
 
 
-def tests(names, named, program, scratch, makes=True):
-    """Returns the tests of these cases. named: what a case is called; makes: whether the module is
-    made if it has to be."""
+def tests(names, shown_name, program, scratch, makes=True):
+    """Returns the tests of these cases. shown_name: gives what a case is called; makes: whether the
+    module is made if it has to be."""
     if not shutil.which("node"):
         return [Test("module: node isn't here", None)]
     if not makes and not build.has_module():
         return [Test("module: it isn't made from these sources (tools/page makes it)", None)]
-    its = Cases(names, scratch)
-    found = [Test(f"module {named(it)}", functools.partial(its.fault_of, it)) for it in names]
+    its = CasesInModule(names, scratch)
+    found = [Test(f"module {shown_name(it)}", functools.partial(its.fault_of, it)) for it in names]
     found.append(
         Test("module with little memory", functools.partial(fault_of_little_memory, names, scratch))
     )

@@ -72,7 +72,7 @@ function drawnFrom(model, branch, from) {
   const isBar = ({ attributes: { class: kind = "" } }) => kind.startsWith("operation");
   const barsIn = (shapes) => found(shapes, isBar).map(barIn);
   return { nests: found(lanes, has("data-nest")).map(nestIn), bars: barsIn(lanes), rows, stories,
-    notes: reading.notes, labels: narrow.flatMap(labelsIn),
+    faults: reading.faults, labels: narrow.flatMap(labelsIn),
     short: narrow.flatMap((it) => barsIn(it.lanes)) };
 }
 for (const line of readFileSync(schedules, "utf8").trim().split("\n")) {

@@ -3,7 +3,7 @@ import json
 import re
 
 import cases
-from pages.live import expect, expect_equal
+from pages.opened_page import LESSON_DRAWN, expect, expect_equal
 
 COMMENT, SOLUTION = "# ", "/your-own"
 DATA = re.compile(r"# (?:goal|ask|option)(?: \d+)?: ")
@@ -19,6 +19,7 @@ REFUSED = {
 
 
 def first_caption(lines):
+    """Returns the comments that a script begins with, without its goals and questions."""
     found = []
     for line in lines:
         if not line.startswith("#"):
@@ -59,7 +60,7 @@ def lesson_links(page):
     """An address that ends in #lesson-5 opens lesson 5, before and after the page has begun, and
     again once it is loaded again."""
     current = "document.querySelector('#study-list [aria-current]')?.dataset.study"
-    page.chrome.open(f"{page.address}#lesson-5")
+    page.browser.open(f"{page.address}#lesson-5")
     page.wait()
     page.until(f"{current} === '05-new-old-inversion'", "lesson 5 isn't open")
     page.value("void (location.hash = '#lesson-6')")
@@ -71,17 +72,17 @@ def lesson_links(page):
     named = f"{shown}.map((it) => it.dataset.do || it.id)"
     expect_equal(page.value(named), ["chooseTower", "study", "chooseOpen", "theme", "help"])
     again = page.value("location.href")
-    page.chrome.open(again)
+    page.browser.open(again)
     page.wait()
     page.until(f"{current} === '06-two-readers'", "lesson 6 isn't open again")
     page.do("studyClose")
     page.until("location.hash.startsWith('#%5B')", "the address still ends in the lesson's number")
-    page.chrome.open(f"{page.address}#lesson-77")
+    page.browser.open(f"{page.address}#lesson-77")
     page.wait()
     expect_equal(page.said(), "This page has no lesson 77.")
 
 
-def exercises(page, names):
+def own_exercises(page, names):
     """A lesson's own exercise opens as its tower with an empty script: its solution isn't in the
     page."""
     for name in [it for it in names if it.endswith(SOLUTION)]:
@@ -132,9 +133,9 @@ def lesson_on_paper(page):
     """While a lesson is open it is what is printed, with its pictures and without its buttons."""
     page.open()
     page.do("study")
-    page.until("'drawn' in document.querySelector('#study-text').dataset")
+    page.until(LESSON_DRAWN)
     page.wait()
-    page.chrome.ask("Emulation.setEmulatedMedia", media="print")
+    page.browser.ask("Emulation.setEmulatedMedia", media="print")
     shown = page.value(
         "['#study-text', '#study-text svg', '#print', '#study-list', '.close-study', '.begin'].map((it) => "
         "document.querySelector(it).checkVisibility())"
@@ -148,4 +149,4 @@ def policy(page):
     for directive, attempt in REFUSED.items():
         expect_equal(page.value(VIOLATION % attempt), directive)
     # The browser says so on its console too
-    page.chrome.complaints.clear()
+    page.browser.complaints.clear()

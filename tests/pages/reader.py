@@ -1,5 +1,5 @@
-"""A second reader of the program's pages, which has nothing of the page's own code: what a picture
-of them has to show."""
+"""The program's pages at the end of a script, asked of the native program and read with none of the
+page's own code."""
 import re
 import tempfile
 

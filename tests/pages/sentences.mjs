@@ -9,7 +9,7 @@ for await (const line of createInterface({ input: process.stdin })) {
   const [history, verdict, length] = JSON.parse(line);
   const pages = { history: pageIn("history", history), verdict: pageIn("verdict", verdict) };
   const branch = { name: "main", length };
-  const { run, notes } = new Reading(branch, length, length, (kind) => pages[kind]);
+  const { run, faults } = new Reading(branch, length, length, (kind) => pages[kind]);
   const reads = run.operations.filter((it) => it.kind === "read");
-  console.log(JSON.stringify([notes, reads.map((it) => [it.begun, reasonOf(run, it)])]));
+  console.log(JSON.stringify([faults, reads.map((it) => [it.begun, reasonOf(run, it)])]));
 }

@@ -14,12 +14,11 @@ import tempfile
 
 from commands import output_of
 from pages import build
-from trials import Test
+from trials import Test, in_short
 
 VALUES = range(3)
 INITIAL = 0
 NEVER = 10**9
-SHOWN = 3
 # ended: NEVER if it goes on; value: what is written or what is returned
 Operation = collections.namedtuple(
     "Operation", "process kind value begun ended is_refused", defaults=[False]
@@ -239,10 +238,10 @@ def sentences(lines):
     return [json.loads(it) for it in output.splitlines()]
 
 
-def fault_of_history(operations, notes, said):
+def fault_of_history(operations, faults, said):
     """Returns what is wrong in what is said of the reads of a history; None: nothing."""
-    if notes:
-        return notes[0]
+    if faults:
+        return faults[0]
     by_step = dict(said)
     for read in (it for it in operations if it.kind == "read"):
         judge, words = Judge(operations, read), by_step[read.begun]
@@ -268,11 +267,7 @@ def fault_of_sentences():
     )
     if not has_all:
         return f"of {len(made)} histories it says {dict(kinds)}"
-    return (
-        f"{len(faults)} of {len(made)} histories: {'; '.join(faults[:SHOWN])}"[:900]
-        if faults
-        else None
-    )
+    return in_short(faults, f"{len(made)} histories")
 
 
 def tests():

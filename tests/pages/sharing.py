@@ -1,23 +1,21 @@
 """Documents that travel: links, pages saved as one file, what was open before, and many files in a
-table; and words and room."""
+table; and hostile ones."""
 import json
 import pathlib
 import tempfile
 import time
 
-from pages.live import expect, expect_equal
+from pages.opened_page import LESSON_DRAWN, expect, expect_equal
 
 GOAL = 'goal: some: verdict has "p1 1 stray"'
 QUESTION = "Can a read give a value that nobody wrote?"
+# A read of a safe bit that is about to end, and the step by which it gives a value never written
 SAFE = "tower 2\nsafe 0\nw 0 0\ng 0 0\nr 1\ng 1 0\n"
 STRAY = "0 insert main 4 g 1 1\n"
 BASE = "https://example.org/towerbench.html"
 MOST_LINK, MOST_PAGE = 400, 900_000
 CLIPBOARD = """(() => { globalThis.copied = ""; const clipboard = { writeText: async (text) => { globalThis.copied = text; } };
   Object.defineProperty(navigator, "clipboard", { value: clipboard, configurable: true }); return 0; })()"""
-IN_SIGHT = """(({ left, right }) => left >= 0 && right <= innerWidth)(
-  document.querySelector("#study-list [aria-current]").getBoundingClientRect())"""
-PICTURE = "document.querySelector('.drawn-here svg').clientWidth"
 TASK = "document.querySelector('#task')"
 
 
@@ -47,7 +45,7 @@ def links(page):
     page.click("#share-copy")
     page.until("globalThis.copied")
     expect_equal(page.value("globalThis.copied"), BASE + found)
-    page.chrome.open(page.address + found)
+    page.browser.open(page.address + found)
     page.wait()
     expect(QUESTION in page.text("#task"), "the question isn't shown")
     expect_equal(page.document(), [SAFE, f"# {QUESTION}\n# {GOAL}\n0 join\n"])
@@ -68,7 +66,7 @@ def links(page):
         "#%5B1%2C2%5D",
         "#%",
     ):
-        page.chrome.open(page.address + damaged)
+        page.browser.open(page.address + damaged)
         page.wait()
         expect(page.said().startswith("This link is damaged"), f"{damaged[:30]}: {page.said()}")
         expect_equal(page.branches(), ["main"])
@@ -79,7 +77,7 @@ def short_links(page):
     page.open()
     page.do("study")
     page.click('#study-list [data-study="05-new-old-inversion"]')
-    page.until("'drawn' in document.querySelector('#study-text').dataset")
+    page.until(LESSON_DRAWN)
     page.click('[data-begin="05-new-old-inversion 3 your-own"]')
     page.until(f"!{TASK}.hidden && {TASK}.textContent.includes('5.3')")
     page.wait()
@@ -93,7 +91,7 @@ def short_links(page):
 def one_file(page):
     """A page that was saved with a document inside opens with it, and says whose it is."""
     with tempfile.TemporaryDirectory() as scratch:
-        page.chrome.ask("Browser.setDownloadBehavior", behavior="allow", downloadPath=scratch)
+        page.browser.ask("Browser.setDownloadBehavior", behavior="allow", downloadPath=scratch)
         page.open(SAFE, f"# {QUESTION}\n# {GOAL}\n0 join\n{STRAY}")
         share(page)
         page.fill("#share-name", "Anna Example")
@@ -104,7 +102,7 @@ def one_file(page):
                 break
             time.sleep(0.05)
         page.wait()
-        page.chrome.open(f"file://{saved}")
+        page.browser.open(f"file://{saved}")
         page.wait()
         expect_equal(
             page.document(),
@@ -240,68 +238,6 @@ def judged_by(page):
     page.drop([("x.script", answer), ("y.script", answer.replace(": 0\n", ": none\n")), given[0]])
     page.until("document.querySelector('#class-dialog').open")
     expect_equal(page.texts("#class-table td:nth-child(3)")[:2], ["0 \u2717", "none \u2713"])
-
-
-def words(page):
-    """Each word on the screen is explained when it is pointed at, and in the help."""
-    page.open(SAFE, f"0 join\n{STRAY}0 go main 5\n")
-    page.chrome.ask("Input.dispatchMouseEvent", type="mouseMoved", x=5, y=5)
-    for selector, word in (
-        (".verdict[data-verdict]", "stray"),
-        (".tick", "ws"),
-        (".chip", "w"),
-        ("#at", "place"),
-        ("#here details h3", "state"),
-    ):
-        at = page.value(
-            f"(() => {{ const it = document.querySelector({json.dumps(selector)}).getBoundingClientRect();"
-            " return [it.x + it.width / 2, it.y + it.height / 2]; })()"
-        )
-        page.chrome.ask("Input.dispatchMouseEvent", type="mouseMoved", x=at[0], y=at[1])
-        page.until(
-            f"document.querySelector('#word:not([hidden]) b')?.textContent === {json.dumps(word)}",
-            f"{word} isn't explained",
-        )
-    page.do("help")
-    expect(page.count("#all-words dt") >= 30, "the help lacks words")
-
-
-def room(page):
-    """At 1280x720 and at 150 % the picture keeps half of the height, folded if need be; on a phone
-    nothing is wider than the screen."""
-    page.open(SAFE, f"0 join\n{STRAY}")
-    for width, height in ((1280, 720), (1067, 600)):
-        page.chrome.size(width, height)
-        for part in ("deck", "aside"):
-            page.click(f"[data-fold={part}]")
-        high = page.value("document.querySelector('#scroll').clientHeight")
-        expect(2 * high >= height, f"at {width}x{height} the picture has {high}")
-        page.do("present")
-        wide = page.value("document.querySelector('#scroll').clientWidth")
-        expect(wide == width, f"the presented picture has {wide}")
-        page.key("Escape")
-        for part in ("deck", "aside"):
-            page.click(f"[data-fold={part}]")
-    page.chrome.size(390, 844)
-    page.do("study")
-    for name in ("study", "studyClose"):
-        wide = page.value("document.documentElement.scrollWidth")
-        expect(wide <= 390, f"{name}: it is {wide} wide")
-        page.do("studyClose" if name == "study" else "study")
-    page.click('#study-list [data-study="08-matrix"]')
-    expect(page.value(IN_SIGHT), "the list doesn't show the lesson")
-    lesson_resized(page)
-
-
-def lesson_resized(page):
-    """A lesson's picture begins with the names of its rows, and is drawn again if the width
-    changes."""
-    page.click('#study-list [data-study="01-safe-bit"]')
-    page.until("'drawn' in document.querySelector('#study-text').dataset")
-    expect_equal(page.value("document.querySelector('.drawn-here').scrollLeft"), 0)
-    for width, is_right in ((1600, f"{PICTURE} > 600"), (390, f"{PICTURE} < 600")):
-        page.chrome.size(width, 844)
-        page.until(is_right, f"at {width} the picture isn't drawn again")
 
 
 def hostile(rounds=200):

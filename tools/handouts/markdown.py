@@ -53,12 +53,17 @@ def anchor_of(heading):
     return re.sub(r"[^\w -]", "", CODE.sub(r"\1", heading).lower()).replace(" ", "-")
 
 
+def html_path(path):
+    """Returns the path of the page that is made of a Markdown file; any other path stays."""
+    return re.sub(r"\.md$", ".html", path)
+
+
 def target_of(link, place):
     """Returns where a link leads from a page; None: to nothing that is handed out."""
     if "://" in link:
         return link
     path, mark, anchor = link.partition("#")
-    path = re.sub(r"\.md$", ".html", path)
+    path = html_path(path)
     there = os.path.normpath(os.path.join(os.path.dirname(place.at), path)) if path else place.at
     return path + mark + anchor if there in place.handed else None
 

@@ -37,12 +37,12 @@ answers_parts answers p [] = []
 answers_parts answers p (list ∷ lists) = answers_part answers p list ++ answers_parts answers (p + 1) lists
 
 -- the line of a step
-abbrev pub schedule_line : Step → List ℕ
-schedule_line s = step_text s ++ 10 ∷ []
+abbrev pub line_of_step : Step → List ℕ
+line_of_step s = step_text s ++ 10 ∷ []
 
 -- an empty line, the line `answers`, and a line for each step of the schedule
 abbrev pub possible_text : List (List Op) → Possible → List ℕ
-possible_text operations a = 10 ∷ codes "answers" ++ answers_parts a.answers.items 0 operations ++ 10 ∷ [] ++ flat_map schedule_line a.steps.items
+possible_text operations a = 10 ∷ codes "answers" ++ answers_parts a.answers.items 0 operations ++ 10 ∷ [] ++ flat_map line_of_step a.steps.items
 
 -- the lines of the numbers of states and of lists of answers
 abbrev pub counts_text : ℕ → ℕ → List ℕ

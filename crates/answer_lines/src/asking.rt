@@ -3,7 +3,7 @@
 ghost use Rattle.std.specs.Prelude.{◌≡◌, ◌≤◌, Ok, IfOk, IfErr};
 ghost use Rattle.question_file.specs.Asked.{lists_of, most_states};
 ghost use Rattle.question_file.specs.Reading.{question_reading};
-ghost use Rattle.question_file.specs.Said.{as_asked};
+ghost use Rattle.question_file.specs.Parsed.{as_asked};
 ghost use Rattle.answer_lines.specs.Faults.{IsFaultOf};
 ghost use Rattle.answer_lines.specs.Search.{AreAnswersOn};
 ghost use Rattle.answer_lines.specs.Text as spec;

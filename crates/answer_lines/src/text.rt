@@ -25,7 +25,7 @@ fn push_outcome(out: &mut Vec<u8>, outcome: Outcome) -> Pushed
 }
 
 /// Adds each outcome after a space.
-fn push_each(out: &mut Vec<u8>, outcomes: &[Outcome]) -> Pushed
+fn push_each_outcome(out: &mut Vec<u8>, outcomes: &[Outcome]) -> Pushed
     ensures { OnOk result (out.new.items ≡ out.old.items
         ++ flat_map spec.outcome_text outcomes.now) }
 {
@@ -42,7 +42,7 @@ fn push_outcomes(out: &mut Vec<u8>, outcomes: &[Outcome]) -> Pushed
     if outcomes.is_empty() {
         return push_text(out, " none");
     }
-    push_each(out, outcomes)
+    push_each_outcome(out, outcomes)
 }
 
 /// Adds the name of process `p` and its outcomes.
@@ -81,7 +81,7 @@ fn push_parts(out: &mut Vec<u8>, operations: &[Vec<Op>], answers: &[Outcomes]) -
 
 /// Adds a step's line.
 fn push_step_line(out: &mut Vec<u8>, step: Step) -> Pushed
-    ensures { OnOk result (out.new.items ≡ out.old.items ++ spec.schedule_line step) }
+    ensures { OnOk result (out.new.items ≡ out.old.items ++ spec.line_of_step step) }
 {
     push_step(out, step)?;
     push_text(out, "\n")
@@ -89,7 +89,7 @@ fn push_step_line(out: &mut Vec<u8>, step: Step) -> Pushed
 
 /// Adds a line for each step.
 fn push_steps(out: &mut Vec<u8>, steps: &[Step]) -> Pushed
-    ensures { OnOk result (out.new.items ≡ out.old.items ++ flat_map spec.schedule_line steps.now) }
+    ensures { OnOk result (out.new.items ≡ out.old.items ++ flat_map spec.line_of_step steps.now) }
 {
     for step in steps {
         push_step_line(out, *step)?;
@@ -109,7 +109,7 @@ fn push_possible(out: &mut Vec<u8>, operations: &[Vec<Op>], possible: &Possible)
 }
 
 /// Adds each list of answers and its schedule.
-fn push_all(out: &mut Vec<u8>, operations: &[Vec<Op>], found: &[Possible]) -> Pushed
+fn push_each_possible(out: &mut Vec<u8>, operations: &[Vec<Op>], found: &[Possible]) -> Pushed
     ensures { OnOk result (out.new.items ≡ out.old.items
         ++ flat_map (spec.possible_text (lists_of operations.now)) found.now) }
 {
@@ -140,6 +140,6 @@ pub fn answers_text(
 {
     let mut out = Vec::new(alloc);
     push_counts(&mut out, found.states, found.possible.len())?;
-    push_all(&mut out, operations, &found.possible)?;
+    push_each_possible(&mut out, operations, &found.possible)?;
     Ok(out)
 }

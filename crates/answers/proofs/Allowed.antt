@@ -3,6 +3,7 @@ use Rattle.std.proofs.Common.{◌≡◌, ℕ, Bool, true, false, List, [], ◌�
 use Rattle.std.specs.Prelude.{⊤, if◌then◌else◌, ◌==◌, ◌&&◌, not, is_none}
 use Rattle.std.proofs.lemmas.List.{append-nil}
 use Rattle.std.proofs.lemmas.Option.{none-some, same_Some}
+use Rattle.std.specs.Option.{option_to_list}
 use Rattle.safe_bit.specs.Memory.{Memory}
 use Rattle.frames.specs.declared.types.Op.{Op}
 use Rattle.frames.specs.declared.types.Op.TheVariants as op
@@ -15,13 +16,14 @@ use Rattle.frames.specs.declared.types.Step.{Step}
 use Rattle.frames.specs.declared.types.Step.TheVariants as step
 use Rattle.frames.specs.declared.running.Running.{Running}
 use Rattle.frames.specs.Behaviour.{Behaviour}
-use Rattle.frames.specs.Steps.{process_of}
+use Rattle.frames.specs.Steps.{process_of, invoking_step}
 use Rattle.frames.specs.Configuration.{Configuration, running_at, is_stopped, events_of, is_ready, is_enabled, acting, acting_unless, invoking, going, return_of, chosen_of, in_order}
 use Rattle.answers.specs.declared.question.Question.{Question}
-use Rattle.answers.specs.Questions.{event_in, events_in, outcomes_by, next_of, process_may_stop, AreAllowed}
-use Rattle.answers.specs.States.{ended_counts, invoking_step, step_by}
+use Rattle.answers.specs.Questions.{events_in, outcomes_by, next_of, process_may_stop, AreAllowed}
+use Rattle.answers.specs.States.{ended_counts, step_by}
 
 module _ (q : Question) where
+  -- events are allowed exactly if their first ones are, and then the others after these
   pub allowed_append : (before xs ys : List Event) → AreAllowed q before xs → AreAllowed q (before ++ xs) ys → AreAllowed q before (xs ++ ys)
   allowed_append before [] ys a h = subst (λ l. AreAllowed q l ys) (append-nil before) h
   allowed_append before (x ∷ xs) ys a h =
@@ -38,10 +40,12 @@ module _ (q : Question) where
   IsPermitted ended (step.Go p c) = ⊤
   IsPermitted ended (step.Stop p) = process_may_stop q p ≡ true
 
+  -- the invocation of the next operation is permitted
   invocation_permitted : (ended : ℕ → ℕ) (p : ℕ) (o : Op) → next_of q ended p ≡ Some o → IsPermitted ended (invoking_step p o)
   invocation_permitted ended p (op.Write v) h = h
   invocation_permitted ended p op.Read h = h
 
+  -- `named_permitted`, by the next operation, by whether the process may stop, and by the kind
   by_next : (ended : ℕ → ℕ) (p : ℕ) (n : Option Op) (s : Step) → next_of q ended p ≡ n → option_map (invoking_step p) n ≡ Some s → IsPermitted ended s
   by_next ended p None s e h = absurd (none-some s h)
   by_next ended p (Some o) s e h = subst (IsPermitted ended) (same_Some (invoking_step p o) s h) (invocation_permitted ended p o e)
@@ -63,15 +67,16 @@ module _ (q : Question) where
   named_permitted answers p kind s h = by_kind (ended_counts answers) p (kind == 0) (kind == 1) (kind == 2) s h
 
   -- an operation's return is always allowed
-  return_allowed : {P : Type 0} (before : List Event) (who : ℕ) (next : Next P) → AreAllowed q before (event_in (return_of who next))
+  return_allowed : {P : Type 0} (before : List Event) (who : ℕ) (next : Next P) → AreAllowed q before (option_to_list (return_of who next))
   return_allowed before who (Pending p) = tt
   return_allowed before who (Done (Value v)) = (tt, tt)
   return_allowed before who (Done Written) = (tt, tt)
   return_allowed before who (Done (Spent layer)) = (tt, tt)
 
+  -- so are the report of a choice and then a return, and all events of a bit action
   chosen_allowed : {P : Type 0} (before : List Event) (who : ℕ) (chosen : Option (ℕ × Bool)) (next : Next P)
       → AreAllowed q before (events_in (in_order (chosen_of who chosen) (return_of who next)))
-  chosen_allowed before who None next = subst (AreAllowed q before) (sym (append-nil (event_in (return_of who next)))) (return_allowed before who next)
+  chosen_allowed before who None next = subst (AreAllowed q before) (sym (append-nil (option_to_list (return_of who next)))) (return_allowed before who next)
   chosen_allowed before who (Some bit) next = (tt, return_allowed _ who next)
 
   going_allowed : {P : Type 0} (b : Behaviour P) (before : List Event) (who : ℕ) (choice : Bool) (running : Option (Running P)) (m : Memory)
@@ -84,6 +89,8 @@ module _ (q : Question) where
     abbrev pub ended_before : ℕ → ℕ
     ended_before r = length (outcomes_by r before)
 
+    -- the events of a permitted step are allowed: of an invocation, of any step of a process that
+    -- hasn't stopped, and of any step
     invoking_allowed : {P : Type 0} (b : Behaviour P) (who : ℕ) (o : Op) (running : Option (Running P)) (m : Memory)
         → next_of q ended_before who ≡ Some o → AreAllowed q before (events_in (invoking b who o running m).events)
     invoking_allowed b who o None m h = (h, return_allowed _ who (b.begins who o m).next)

@@ -1,7 +1,7 @@
 -- The events of steps, and the outcomes that end in them.
-use Rattle.std.proofs.Common.{◌≡◌, ℕ, Bool, true, false, List, [], ◌∷◌, ◌++◌, Option, Some, None, refl, sym, ap, ◌∙◌, append_assoc, arith, if◌then◌else◌, ◌==◌}
+use Rattle.std.proofs.Common.{◌≡◌, ℕ, Bool, true, false, List, [], ◌∷◌, ◌++◌, Option, Some, None, refl, sym, ap, ◌∙◌, append_assoc, if◌then◌else◌, ◌==◌}
 use Rattle.std.proofs.lemmas.List.{append-nil}
-use Rattle.std.proofs.lemmas.List.Elements.{All-append, All-cons}
+use Rattle.std.specs.Option.{option_to_list}
 use Rattle.safe_bit.specs.Memory.{Memory}
 use Rattle.frames.specs.declared.types.Op.{Op}
 use Rattle.frames.specs.declared.types.Op.TheVariants as op
@@ -15,10 +15,12 @@ use Rattle.frames.specs.declared.types.Step.TheVariants as step
 use Rattle.frames.specs.declared.running.Running.{Running}
 use Rattle.frames.specs.Behaviour.{Behaviour}
 use Rattle.frames.specs.Steps.{process_of}
-use Rattle.frames.specs.Recorded.{AllFit, first_configuration, configuration_after}
-use Rattle.frames.specs.Configuration.{Configuration, running_at, is_stopped, fits_step, stepped, replayed, events_of, history, acting, acting_unless, invoking, going, return_of, chosen_of, in_order}
-use Rattle.answers.specs.Questions.{event_in, events_in, all_events, events_after, outcomes_in, outcomes_by}
+use Rattle.frames.specs.Recorded.{first_configuration, configuration_after}
+use Rattle.frames.specs.Configuration.{Configuration, running_at, is_stopped, stepped, events_of, history, acting, acting_unless, invoking, going, return_of, chosen_of, in_order}
+use Rattle.frames.proofs.Replayed.{replayed-push, history-push}
+use Rattle.answers.specs.Questions.{events_in, all_events, events_after, outcomes_in, outcomes_by}
 
+-- the outcomes in more events, and the events of one more step
 pub outcomes_by_append : (p : ℕ) (xs ys : List Event) → outcomes_by p (xs ++ ys) ≡ outcomes_by p xs ++ outcomes_by p ys
 outcomes_by_append p [] ys = refl
 outcomes_by_append p (x ∷ xs) ys = ap (λ l. outcomes_in p x ++ l) (outcomes_by_append p xs ys) ∙ sym (append_assoc (outcomes_in p x) (outcomes_by p xs) (outcomes_by p ys))
@@ -27,31 +29,19 @@ all_events_push : (xs : List StepEvents) (y : StepEvents) → all_events (xs ++ 
 all_events_push [] y = append-nil (events_in y)
 all_events_push (x ∷ xs) y = ap (λ l. events_in x ++ l) (all_events_push xs y) ∙ sym (append_assoc (events_in x) (all_events xs) (events_in y))
 
-replayed_push : {R P : Type 0} (b : Behaviour P) (xs : List Step) (s : Step) (c : Configuration R P) → replayed b c (xs ++ s ∷ []) ≡ stepped b (replayed b c xs) s
-replayed_push b [] s c = refl
-replayed_push b (x ∷ xs) s c = replayed_push b xs s (stepped b c x)
-
-history_push : {R P : Type 0} (b : Behaviour P) (xs : List Step) (s : Step) (c : Configuration R P)
-    → history b c (xs ++ s ∷ []) ≡ history b c xs ++ events_of b (replayed b c xs) s ∷ []
-history_push b [] s c = refl
-history_push b (x ∷ xs) s c = ap (λ es. events_of b c x ∷ es) (history_push b xs s (stepped b c x))
-
-pub fit_push : {P : Type 0} (b : Behaviour P) (xs : List Step) (s : Step) → AllFit b xs → fits_step b s ≡ true → AllFit b (xs ++ s ∷ [])
-fit_push b xs s h f =
-    All-append (λ s. fits_step b s ≡ true) xs (s ∷ []) h (All-cons (λ s. fits_step b s ≡ true) s [] f (λ k d lt. absurd (omega (arith, lt))))
-
 module _ {P : Type 0} (b : Behaviour P) (value : ℕ) where
+  -- the configuration and the events after one more step
   pub shown_more : (steps : List Step) (s : Step) → configuration_after b value (steps ++ s ∷ []) ≡ stepped b (configuration_after b value steps) s
-  shown_more steps s = replayed_push b steps s (first_configuration b value)
+  shown_more steps s = replayed-push b steps s (first_configuration b value)
 
   pub events_more : (steps : List Step) (s : Step) → events_after b value (steps ++ s ∷ []) ≡ events_after b value steps ++ events_in (events_of b (configuration_after b value steps) s)
   events_more steps s =
-      ap all_events (history_push b steps s (first_configuration b value))
+      ap all_events (history-push b steps s (first_configuration b value))
       ∙ all_events_push (history b (first_configuration b value) steps) (events_of b (configuration_after b value steps) s)
 
 -- a step of process `who` ends no operation of another process r
 module _ (r : ℕ) where
-  return_other : {P : Type 0} (who : ℕ) (next : Next P) → (who == r) ≡ false → outcomes_by r (event_in (return_of who next)) ≡ []
+  return_other : {P : Type 0} (who : ℕ) (next : Next P) → (who == r) ≡ false → outcomes_by r (option_to_list (return_of who next)) ≡ []
   return_other who (Pending p) e = refl
   return_other who (Done (Value v)) e = ap (λ t. (if t then Value v ∷ [] else []) ++ []) e
   return_other who (Done Written) e = ap (λ t. (if t then Written ∷ [] else []) ++ []) e
@@ -59,7 +49,7 @@ module _ (r : ℕ) where
 
   chosen_other : {P : Type 0} (who : ℕ) (chosen : Option (ℕ × Bool)) (next : Next P) → (who == r) ≡ false
       → outcomes_by r (events_in (in_order (chosen_of who chosen) (return_of who next))) ≡ []
-  chosen_other who None next e = ap (outcomes_by r) (append-nil (event_in (return_of who next))) ∙ return_other who next e
+  chosen_other who None next e = ap (outcomes_by r) (append-nil (option_to_list (return_of who next))) ∙ return_other who next e
   chosen_other who (Some bit) next e = return_other who next e
 
   going_other : {P : Type 0} (b : Behaviour P) (who : ℕ) (choice : Bool) (running : Option (Running P)) (m : Memory) → (who == r) ≡ false

@@ -7,7 +7,7 @@ use Rattle.frames.specs.declared.types.Step.{Step}
 use Rattle.frames.specs.Behaviour.{Behaviour}
 use Rattle.breadth_first.specs.declared.mark.Mark.{Mark}
 use Rattle.breadth_first.specs.Paths.{depth_at}
-use Rattle.breadth_first.proofs.Pushed.{kept_by_push, old_or_new, passing_place, pushed_last}
+use Rattle.breadth_first.proofs.Items.{kept_by_push, old_or_new, passing_place, pushed_last}
 use Rattle.answers.specs.declared.found.Possible.{Possible}
 use Rattle.answers.specs.declared.question.Question.{Question}
 use Rattle.answers.specs.Questions.{IsScheduleOf, HasAnswers}
@@ -29,6 +29,7 @@ fails_at test (y ∷ ys) i x h g = by (test y) refl h i g (λ j. fails_at test y
     by false e k (suc j) l later = later j k l
 
 module _ {R P : Type 0} (b : Behaviour P) (q : Question) (nodes : List (StateOf R P)) (marks : List Mark) where
+  -- at first, nothing is listed
   pub gathered_none : IsGathered b q nodes marks 0 []
   gathered_none = record {
     sound = λ i a h. absurd (none-some a h);
@@ -79,9 +80,11 @@ module _ {R P : Type 0} (b : Behaviour P) (q : Question) (nodes : List (StateOf 
       differs i c h e =
           true≢false (sym ((answers_decide c.answers.items k.answers).1 (e ∙ answers)) ∙ fails_at (λ (c : Possible). answers_eq c.answers.items k.answers) found i c new h)
 
+      -- what is listed stays so
       still_covered : (x : StateOf R P) (d : ℕ) → IsCovered found x d → IsCovered (found ++ a ∷ []) x d
       still_covered x d c = record { index = c.index; possible = c.possible; stored = kept_by_push found a c.index c.possible c.stored; answers = c.answers; shortest = c.shortest }
 
+      -- the answers of state k are listed
       pub gathered_push : IsGathered b q nodes marks (at + 1) (found ++ a ∷ [])
       gathered_push = record {
         sound = λ i c h. elim (old_or_new found a i c h) [ inl p ↦ g.sound i c p | inr r ↦ subst (HasItsSchedule b q) (sym r.1) sound ];

@@ -3,11 +3,11 @@ pub mod Allowed
 pub mod Schedules
 pub mod DoneStates
 pub mod Gathering
-pub mod Goals
+pub mod NotedGoals
 pub mod Listed
 pub mod Building
 pub mod Ranked
 pub mod Tidying
 pub mod UnusedChoices
-pub mod Written
+pub mod PackedSoFar
 mod Examples

@@ -16,9 +16,9 @@ use Rattle.answers.specs.Questions.{IsScheduleOf, HasAnswers}
 use Rattle.answers.specs.States.{StateOf}
 use Rattle.answers.specs.laws.StateLaws.{answers_eq}
 use Rattle.answers.proofs.Building.{built, built_state}
-use Rattle.answers.proofs.DoneStates.{done_schedule, at_answers}
+use Rattle.answers.proofs.DoneStates.{done_schedule, answers_of_state}
 use Rattle.answers.proofs.Gathering.{covered_listed, gathered_push, gathered_skip}
-use Rattle.answers.proofs.Goals.{goal_done}
+use Rattle.answers.proofs.NotedGoals.{goal_done}
 
 module _ {R P : Type 0} (is : R → Behaviour P) (b : Behaviour P) (q : Question) (nodes : List (StateOf R P)) (goals : List Bool) (marks : List Mark) (marked : length marks ≡ length nodes)
     (by_goal : goals ≡ map (λ x. all_over q x b.processes) nodes) (index : ℕ) (d : Bool) (read : d ≡ slice_index_or goals index d)
@@ -56,6 +56,6 @@ module _ {R P : Type 0} (is : R → Behaviour P) (b : Behaviour P) (q : Question
           let has : a.answers.items ≡ k.answers = answers ∙ ap (λ (x : StateOf R P). x.answers) same in
           let sound : HasItsSchedule b q a = record {
             schedule = subst (IsScheduleOf b q) (sym along) (done_schedule is b q steps k run (goal_done b q nodes goals marks marked by_goal index d read k stored done));
-            answers = subst (λ (l : List Step). HasAnswers b q.value l a.answers.items) (sym along) (subst (HasAnswers b q.value steps) (sym has) (at_answers is b q steps k run.at));
+            answers = subst (λ (l : List Step). HasAnswers b q.value l a.answers.items) (sym along) (subst (HasAnswers b q.value steps) (sym has) (answers_of_state is b q steps k run.at));
           } in
           gathered_push b q nodes marks sorted index found g k stored a sound has (ap length along ∙ long) (listed_alike k same ∙ new)

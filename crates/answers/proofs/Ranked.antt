@@ -15,7 +15,7 @@ use Rattle.frames.specs.declared.types.Outcome.{Outcome}
 use Rattle.frames.specs.declared.types.Outcome.TheVariants.{Written}
 use Rattle.answers.specs.declared.question.After.{After}
 use Rattle.answers.specs.declared.question.Question.{Question}
-use Rattle.answers.specs.Questions.{IsAcyclic, allows, are_named, next_of, operations_in, operations_of}
+use Rattle.answers.specs.Questions.{IsAcyclic, allows, are_asked, next_of, operations_in, operations_of}
 use Rattle.answers.specs.States.{ended_counts}
 
 -- if each item passes a test, the item at index i does
@@ -55,6 +55,7 @@ none_past_end (x ∷ xs) (suc i) h = let l = none_past_end xs i h in omega (arit
 abbrev raised : (ℕ → ℕ → ℕ) → ℕ → ℕ → ℕ → ℕ → ℕ → ℕ
 raised rank limit p n r i = if (r == p) && (i == n) then limit else rank r i
 
+-- the ranks of that operation, and of the others
 raised_here : (rank : ℕ → ℕ → ℕ) (limit p n r i : ℕ) → r ≡ p → i ≡ n → raised rank limit p n r i ≡ limit
 raised_here rank limit p n r i e f j = if (eq-eqb r p e j) && (eq-eqb i n f j) then limit else rank r i
 
@@ -72,6 +73,7 @@ missing os [] = 0
 missing [] (e ∷ es) = 0
 missing (o ∷ os) (e ∷ es) = (length o.items - length e) + missing os es
 
+-- once one more has ended, one less is missing
 pub missing_less : (os : List (Vec Op)) (es : List (List Outcome)) (p : ℕ) (o : Op) → p < length es
     → slice_get (operations_in (slice_get os p)) (length (get_or es p [])) ≡ Some o
     → missing os (set es p (get_or es p [] ++ Written ∷ [])) < missing os es
@@ -84,6 +86,7 @@ missing_less (x ∷ os) (e ∷ es) zero o lt h =
 missing_less (x ∷ os) (e ∷ es) (suc p) o lt h = let less = missing_less os es p o (omega (arith, lt)) h in omega (arith, less)
 
 module _ (q : Question) where
+  -- what `next_of` takes to give an operation
   next_parts : (t : Bool) (n : Option Op) (o : Op) → (if t then n else None) ≡ Some o → (t ≡ true) × (n ≡ Some o)
   next_parts true n o h = (refl, h)
   next_parts false n o h = absurd (none-some o h)
@@ -108,6 +111,7 @@ module _ (q : Question) where
     pub follows : (k : ℕ) (a : After) → slice_get q.after.items k ≡ Some a → a.later.index < ended a.later.process
         → (a.earlier.index < ended a.earlier.process) × (rank a.earlier.process a.earlier.index < rank a.later.process a.later.index)
 
+  -- at first, no operation has ended
   pub ranked_none : (ended : ℕ → ℕ) → ((p : ℕ) → ended p ≡ 0) → IsRankedTo ended
   ranked_none ended none = record {
     rank = λ p i. 0;
@@ -128,6 +132,7 @@ module _ (q : Question) where
 
   module _ (ended ended' : ℕ → ℕ) (p : ℕ) (was : IsRankedTo ended) (more : ended' p ≡ ended p + 1)
       (kept : (r : ℕ) → (r ≡ p → ⊥) → ended' r ≡ ended r) (free : list_all (allows ended p) q.after.items ≡ true) where
+    -- an operation that has ended now had ended before, or is the one that ended last
     old_or_last : (r i : ℕ) → i < ended' r → (i < ended r) ⊎ ((r ≡ p) × (i ≡ ended p))
     old_or_last r i lt = elim (cases_eq r p) [
       | inl e ↦ at_p e (cases_lt i (ended r))
@@ -150,6 +155,7 @@ module _ (q : Question) where
       | inr other ↦ let same = kept r other in omega (arith, lt, same)
     ]
 
+    -- the operation that ended last gets a rank above all others
     abbrev new_rank : ℕ → ℕ → ℕ
     new_rank = raised was.rank was.limit p (ended p)
 
@@ -159,6 +165,7 @@ module _ (q : Question) where
     rank_of_last : (r i : ℕ) → r ≡ p → i ≡ ended p → new_rank r i ≡ was.limit
     rank_of_last r i e f = raised_here was.rank was.limit p (ended p) r i e f
 
+    -- the next operation of p ends, and all others stay
     pub ranked_more : IsRankedTo ended'
     ranked_more = record {
       rank = new_rank;
@@ -194,15 +201,16 @@ module _ (q : Question) where
       ];
     }
 
-  module _ (named : list_all (are_named q) q.after.items ≡ true) where
+  module _ (named : list_all (are_asked q) q.after.items ≡ true) where
     -- both operations that item k of `after` names exist
     both_exist : (k : ℕ) (a : After) → slice_get q.after.items k ≡ Some a
         → (a.later.index < length (operations_of q a.later.process)) × (a.earlier.index < length (operations_of q a.earlier.process))
     both_exist k a get =
         let n = and_parts (nat_lt a.later.index (length (operations_of q a.later.process))) (nat_lt a.earlier.index (length (operations_of q a.earlier.process)))
-        (passes_at (are_named q) q.after.items k a named get) in
+        (passes_at (are_asked q) q.after.items k a named get) in
         (ltb-true _ _ n.0, ltb-true _ _ n.1)
 
+    -- if all operations have ended, their ranks show that none has to follow itself
     acyclic_if_all_ended : (ended : ℕ → ℕ) → IsRankedTo ended → ((p : ℕ) → ended p ≡ length (operations_of q p)) → IsAcyclic q
     acyclic_if_all_ended ended was all = record {
       rank = was.rank;
@@ -219,6 +227,7 @@ module _ (q : Question) where
       which : after.later.index ≡ ended p
       waits : ended after.earlier.process ≤ after.earlier.index
 
+    -- an operation that is left and can't end waits for one that hasn't ended
     blocked : (ended : ℕ → ℕ) (p : ℕ) → next_of q ended p ≡ None → ended p < length (operations_of q p) → IsBlocked ended p
     blocked ended p none lt = by (list_all (allows ended p) q.after.items) refl none
       where
@@ -309,6 +318,7 @@ nothing_ended (suc n) (suc p) = nothing_ended n p
 
 -- the counts of operations once one more has ended
 module _ (answers : List (List Outcome)) (p : ℕ) (there : p < length answers) where
+  -- the answers once process p's next operation has ended
   abbrev with_one : List (List Outcome)
   with_one = set answers p (get_or answers p [] ++ Written ∷ [])
 

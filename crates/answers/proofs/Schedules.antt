@@ -12,17 +12,19 @@ use Rattle.frames.specs.declared.types.Event.{Event}
 use Rattle.frames.specs.declared.types.Step.{Step}
 use Rattle.frames.specs.declared.types.Step.TheVariants as step
 use Rattle.frames.specs.Behaviour.{Behaviour, IsLawful}
-use Rattle.frames.specs.Steps.{process_of}
+use Rattle.frames.specs.Steps.{process_of, invoking_step}
 use Rattle.frames.specs.Voids.{IsVoid}
-use Rattle.frames.specs.laws.Steps.{process_exists, void_unless_enabled}
+use Rattle.frames.specs.laws.Steps.{process_exists, void_unless_enabled, initial_is_configuration}
 use Rattle.frames.specs.Configuration.{fits_step, is_enabled, stepped, events_of, history}
-use Rattle.frames.specs.Recorded.{Alone, AllFit, configuration_after}
+use Rattle.frames.specs.Recorded.{LoneConfiguration, AllFit, configuration_after, without_register}
 use Rattle.breadth_first.specs.Paths.{Moves, Reaches}
 use Rattle.answers.specs.declared.question.Question.{Question}
 use Rattle.answers.specs.Questions.{all_events, events_in, events_after, outcomes_by, AreAllowed}
-use Rattle.answers.specs.States.{StateOf, IsStateAfter, IsStateOfRun, configuration_alone, first_state, advanced, ended_counts, invoking_step, step_by, moved, moved_if}
-use Rattle.answers.proofs.Events.{fit_push, outcomes_by_append, shown_more, events_more, events_other}
+use Rattle.answers.specs.States.{StateOf, IsStateAfter, IsStateOfRun, first_state, advanced, ended_counts, step_by, moved, moved_if}
+use Rattle.frames.proofs.Replayed.{fit-push}
+use Rattle.answers.proofs.Events.{outcomes_by_append, shown_more, events_more, events_other}
 use Rattle.answers.proofs.Allowed.{IsPermitted, named_permitted, allowed_append, allowed_later, enabled_permitted, permitted_allowed, ended_before}
+use Rattle.answers.specs.Graphs.{IsStateOf}
 
 -- at first no process has answers
 no_answers_at : (n p : ℕ) → ◌≡◌ {A = List Outcome} (get_or (replicate n []) p []) []
@@ -30,10 +32,19 @@ no_answers_at zero p = refl
 no_answers_at (suc n) zero = refl
 no_answers_at (suc n) (suc p) = no_answers_at n p
 
+-- what `IsStateOf` says of each state holds of the initial one
+pub initial_is_state_of : {R P : Type 0} (b : Behaviour P) (Holds : Memory → Type 0) (Reaches : ℕ → Op → P → Type 0) → IsLawful b Holds Reaches → (r : R) (value : ℕ) → value < b.values
+    → IsStateOf b Holds Reaches r (first_state b value r)
+initial_is_state_of b Holds Reaches lawful r value lt = record {
+  register = refl;
+  sound = initial_is_configuration b Holds Reaches lawful r value (b.initial value) (replicate b.processes None) (replicate b.processes false) lt refl refl refl;
+  each = length-replicate b.processes _;
+}
+
 module _ {R P : Type 0} (is : R → Behaviour P) (b : Behaviour P) (value : ℕ) where
   -- the initial state is the one after no steps
-  pub at_first : (r : R) → is r ≡ b → IsStateAfter is b value [] (first_state b value r)
-  at_first r e = record {
+  pub after_no_steps : (r : R) → is r ≡ b → IsStateAfter is b value [] (first_state b value r)
+  after_no_steps r e = record {
     behaves = e;
     shows = refl;
     each = length-replicate b.processes [];
@@ -42,8 +53,9 @@ module _ {R P : Type 0} (is : R → Behaviour P) (b : Behaviour P) (value : ℕ)
 
   -- a step of x has the same events as that step after the steps
   same_events : (steps : List Step) (x : StateOf R P) (s : Step) → IsStateAfter is b value steps x → events_of b x.configuration s ≡ events_of b (configuration_after b value steps) s
-  same_events steps x s at = ap (λ (c : Alone P). events_of b c s) at.shows
+  same_events steps x s at = ap (λ (c : LoneConfiguration P). events_of b c s) at.shows
 
+  -- the answers of x, and the outcomes of one more step, are those of the steps with it
   answered_more : (steps : List Step) (x : StateOf R P) (s : Step) (p : ℕ) → IsStateAfter is b value steps x
       → slice_index_or x.answers p [] ++ outcomes_by p (events_in (events_of b x.configuration s)) ≡ outcomes_by p (events_after b value (steps ++ s ∷ []))
   answered_more steps x s p at =
@@ -53,10 +65,10 @@ module _ {R P : Type 0} (is : R → Behaviour P) (b : Behaviour P) (value : ℕ)
 
   module _ (Holds : Memory → Type 0) (Reach : ℕ → Op → P → Type 0) (lawful : IsLawful b Holds Reach) where
     -- a step that fits leads to the state after it
-    pub at_more : (steps : List Step) (x : StateOf R P) (s : Step) → IsStateAfter is b value steps x → fits_step b s ≡ true → IsStateAfter is b value (steps ++ s ∷ []) (advanced b x s)
-    at_more steps x s at fits = record {
+    pub after_step : (steps : List Step) (x : StateOf R P) (s : Step) → IsStateAfter is b value steps x → fits_step b s ≡ true → IsStateAfter is b value (steps ++ s ∷ []) (advanced b x s)
+    after_step steps x s at fits = record {
       behaves = at.behaves;
-      shows = ap (λ (c : Alone P). stepped b c s) at.shows ∙ sym (shown_more b value steps s);
+      shows = ap (λ (c : LoneConfiguration P). stepped b c s) at.shows ∙ sym (shown_more b value steps s);
       each = length-set x.answers (process_of s) _ ∙ at.each;
       answered = λ p. elim (cases_eq p (process_of s)) [ inl e ↦ own p e | inr ne ↦ other p ne ];
     }
@@ -83,12 +95,12 @@ module _ {R P : Type 0} (is : R → Behaviour P) (b : Behaviour P) (value : ℕ)
             ∙ (ap (λ l. slice_index_or x.answers p [] ++ l) (sym (none p ne)) ∙ answered_more steps x s p at))
 
   -- a step that isn't enabled leaves the state as it is
-  pub at_same : (steps : List Step) (x : StateOf R P) (s : Step) → IsStateAfter is b value steps x → is_enabled x.configuration s ≡ false → IsStateAfter is b value (steps ++ s ∷ []) x
-  at_same steps x s at off =
-      let void : IsVoid b (configuration_alone x.configuration) s = void_unless_enabled b (configuration_alone x.configuration) s off in
+  pub after_void : (steps : List Step) (x : StateOf R P) (s : Step) → IsStateAfter is b value steps x → is_enabled x.configuration s ≡ false → IsStateAfter is b value (steps ++ s ∷ []) x
+  after_void steps x s at off =
+      let void : IsVoid b (without_register x.configuration) s = void_unless_enabled b (without_register x.configuration) s off in
       record {
         behaves = at.behaves;
-        shows = sym void.leaves ∙ (ap (λ (c : Alone P). stepped b c s) at.shows ∙ sym (shown_more b value steps s));
+        shows = sym void.leaves ∙ (ap (λ (c : LoneConfiguration P). stepped b c s) at.shows ∙ sym (shown_more b value steps s));
         each = at.each;
         answered = λ p.
             sym (append-nil (slice_index_or x.answers p []))
@@ -100,6 +112,7 @@ module _ {R P : Type 0} (is : R → Behaviour P) (b : Behaviour P) (value : ℕ)
     abbrev pub labelled_move : StateOf R P → ℕ → Option (StateOf R P)
     labelled_move x l = moved (is x.configuration.register) q x l
 
+    -- a bit action with a choice above 1 fits no register
     no_third_choice : (p c : ℕ) → fits_step b (step.Go p (suc (suc c))) ≡ true → ⊥
     no_third_choice p c h = let lt = ltb-true (suc (suc c)) 2 (and_parts (nat_lt p b.processes) (nat_lt (suc (suc c)) 2) h).1 in omega (arith, lt)
 
@@ -131,29 +144,32 @@ module _ {R P : Type 0} (is : R → Behaviour P) (b : Behaviour P) (value : ℕ)
     same_counts : (steps : List Step) (x : StateOf R P) → IsStateAfter is b value steps x → ended_counts x.answers ≡ ended_before q (events_after b value steps)
     same_counts steps x at i r = length (at.answered r i)
 
-    -- a step that a move makes fits, and leads to the state that the move leads to
+    -- `step_taken`, by whether the step fits and is enabled
     by_test : (x z : StateOf R P) (s : Step) (t u : Bool) → fits_step b s ≡ t → (if t && u then Some (advanced b x s) else None) ≡ Some z
         → (fits_step b s ≡ true) × (advanced b x s ≡ z)
     by_test x z s true true e h = (e, same_Some (advanced b x s) z h)
     by_test x z s true false e h = absurd (none-some z h)
     by_test x z s false u e h = absurd (none-some z h)
 
+    -- a move is a step that fits
     pub step_taken : (x z : StateOf R P) (o : Option Step) → moved_if b x o ≡ Some z → (s : Step) × ((o ≡ Some s) × ((fits_step b s ≡ true) × (advanced b x s ≡ z)))
     step_taken x z None h = absurd (none-some z h)
     step_taken x z (Some s) h = (s, (refl, by_test x z s (fits_step b s) (is_enabled x.configuration s) refl h))
 
+    -- no steps lead to the initial state
     pub run_first : (r : R) → is r ≡ b → IsStateOfRun is b value q [] (first_state b value r)
-    run_first r e = record { at = at_first r e; fit = λ k d lt. absurd (omega (arith, lt)); allowed = tt }
+    run_first r e = record { at = after_no_steps r e; fit = λ k d lt. absurd (omega (arith, lt)); allowed = tt }
 
     module _ (Holds : Memory → Type 0) (Reach : ℕ → Op → P → Type 0) (lawful : IsLawful b Holds Reach) where
+      -- one more step that fits, and that its process may make
       pub run_more : (steps : List Step) (x : StateOf R P) (s : Step) → IsStateOfRun is b value q steps x → fits_step b s ≡ true → IsPermitted q (ended_counts x.answers) s
           → IsStateOfRun is b value q (steps ++ s ∷ []) (advanced b x s)
       run_more steps x s run fits may =
           let before = events_after b value steps in
           let may_be : IsPermitted q (ended_before q before) s = subst (λ (n : ℕ → ℕ). IsPermitted q n s) (same_counts steps x run.at) may in
           record {
-            at = at_more Holds Reach lawful steps x s run.at fits;
-            fit = fit_push b steps s run.fit fits;
+            at = after_step Holds Reach lawful steps x s run.at fits;
+            fit = fit-push b steps s run.fit fits;
             allowed = subst (AreAllowed q []) (sym (events_more b value steps s))
                 (allowed_append q [] before (events_in (events_of b (configuration_after b value steps) s)) run.allowed (permitted_allowed q before b (configuration_after b value steps) s may_be));
           }
@@ -199,7 +215,7 @@ module _ {R P : Type 0} (is : R → Behaviour P) (b : Behaviour P) (value : ℕ)
           later : AreAllowed q (events_after b value (steps ++ s ∷ [])) (all_events (history b (configuration_after b value (steps ++ s ∷ [])) rest))
           later =
               subst (λ l. AreAllowed q l (all_events (history b (configuration_after b value (steps ++ s ∷ [])) rest))) (sym (events_more b value steps s))
-              (subst (λ (c : Alone P). AreAllowed q (events_after b value steps ++ events) (all_events (history b c rest))) (sym (shown_more b value steps s))
+              (subst (λ (c : LoneConfiguration P). AreAllowed q (events_after b value steps ++ events) (all_events (history b c rest))) (sym (shown_more b value steps s))
               (allowed_later q (events_after b value steps) events (all_events (history b (stepped b (configuration_after b value steps) s) rest)) allowed))
 
           joined : (most : ℕ) → most ≤ n + length (s ∷ rest) → IsWalked start ((steps ++ s ∷ []) ++ rest) most → IsWalked start (steps ++ s ∷ rest) (n + length (s ∷ rest))
@@ -213,7 +229,7 @@ module _ {R P : Type 0} (is : R → Behaviour P) (b : Behaviour P) (value : ℕ)
 
           moves : is_enabled x.configuration s ≡ true → Moves (b.processes * 4) labelled_move x (advanced b x s)
           moves on =
-              let same : is_enabled (configuration_after b value steps) s ≡ true = ap (λ (c : Alone P). is_enabled c s) (sym at.shows) ∙ on in
+              let same : is_enabled (configuration_after b value steps) s ≡ true = ap (λ (c : LoneConfiguration P). is_enabled c s) (sym at.shows) ∙ on in
               let may : IsPermitted q (ended_before q (events_after b value steps)) s = enabled_permitted q (events_after b value steps) b (configuration_after b value steps) s (all_events (history b (stepped b (configuration_after b value steps) s) rest)) same allowed in
               permitted_moves x s at.behaves (process_exists b Holds Reach lawful s fits)
               (subst (λ (f : ℕ → ℕ). IsPermitted q f s) (sym (same_counts steps x at)) may) fits on
@@ -221,5 +237,5 @@ module _ {R P : Type 0} (is : R → Behaviour P) (b : Behaviour P) (value : ℕ)
           by : (on : Bool) → is_enabled x.configuration s ≡ on
               → ((y : StateOf R P) (m : ℕ) → IsStateAfter is b value (steps ++ s ∷ []) y → Reaches (b.processes * 4) labelled_move start m y → IsWalked start ((steps ++ s ∷ []) ++ rest) (m + length rest))
               → IsWalked start (steps ++ s ∷ rest) (n + length (s ∷ rest))
-          by true on go = joined (suc n + length rest) (omega arith) (go (advanced b x s) (suc n) (at_more Holds Reach lawful steps x s at fits) (x, (reached, moves on)))
-          by false off go = joined (n + length rest) (omega arith) (go x n (at_same steps x s at off) reached)
+          by true on go = joined (suc n + length rest) (omega arith) (go (advanced b x s) (suc n) (after_step Holds Reach lawful steps x s at fits) (x, (reached, moves on)))
+          by false off go = joined (n + length rest) (omega arith) (go x n (after_void steps x s at off) reached)

@@ -17,11 +17,11 @@ use Rattle.answers.specs.Answers.{AllAnswered, HasItsSchedule, IsListed}
 use Rattle.answers.specs.States.{StateOf, IsStateOfRun, AreAllOver, advanced, first_state, step_by}
 use Rattle.answers.specs.laws.StateLaws.{answers_eq, answers_decide}
 use Rattle.answers.proofs.Allowed.{named_permitted}
-use Rattle.answers.proofs.DoneStates.{at_answers, done_schedule}
+use Rattle.answers.proofs.DoneStates.{answers_of_state, done_schedule}
 use Rattle.answers.proofs.Schedules.{run_first, run_more}
 
 module _ {R P : Type 0} (is : R → Behaviour P) (b : Behaviour P) (q : Question) where
-  -- the initial state is the one after no steps
+  -- a first draft has no steps, and is in the initial state
   pub draft_first : (r : R) (x : StateOf R P) (steps : List Step) → is r ≡ b → x ≡ first_state b q.value r → steps ≡ [] → IsStateOfRun is b q.value q steps x
   draft_first r x steps e first none =
       subst (λ (s : List Step). IsStateOfRun is b q.value q s x) (sym none)
@@ -43,22 +43,24 @@ module _ {R P : Type 0} (is : R → Behaviour P) (b : Behaviour P) (q : Question
       → answers_eq x.answers a.answers.items ≡ true → HasItsSchedule b q (record a { steps = steps })
   done_steps steps x a run done same = record {
     schedule = done_schedule is b q steps.items x run done;
-    answers = subst (HasAnswers b q.value steps.items) ((answers_decide x.answers a.answers.items).0 same) (at_answers is b q steps.items x run.at);
+    answers = subst (HasAnswers b q.value steps.items) ((answers_decide x.answers a.answers.items).0 same) (answers_of_state is b q steps.items x run.at);
   }
 
 -- an item of a list whose item i was replaced by y is y, or one of the list before
-new_or_old : {X : Type 0} (xs : List X) (i j : ℕ) (y x : X) → slice_get (slice_set xs i y) j ≡ Some x → ((j ≡ i) × (y ≡ x)) ⊎ (slice_get xs j ≡ Some x)
-new_or_old [] i j y x h = absurd (none-some x h)
-new_or_old (d ∷ ds) zero zero y x h = inl (refl, same_Some y x h)
-new_or_old (d ∷ ds) zero (suc j) y x h = inr h
-new_or_old (d ∷ ds) (suc i) zero y x h = inr h
-new_or_old (d ∷ ds) (suc i) (suc j) y x h = elim (new_or_old ds i j y x h) [ inl p ↦ inl (ap suc p.0, p.1) | inr o ↦ inr o ]
+replaced_or_kept : {X : Type 0} (xs : List X) (i j : ℕ) (y x : X) → slice_get (slice_set xs i y) j ≡ Some x → ((j ≡ i) × (y ≡ x)) ⊎ (slice_get xs j ≡ Some x)
+replaced_or_kept [] i j y x h = absurd (none-some x h)
+replaced_or_kept (d ∷ ds) zero zero y x h = inl (refl, same_Some y x h)
+replaced_or_kept (d ∷ ds) zero (suc j) y x h = inr h
+replaced_or_kept (d ∷ ds) (suc i) zero y x h = inr h
+replaced_or_kept (d ∷ ds) (suc i) (suc j) y x h = elim (replaced_or_kept ds i j y x h) [ inl p ↦ inl (ap suc p.0, p.1) | inr o ↦ inr o ]
 
+-- what a list has in place of a replaced item
 set_here : {X : Type 0} (xs : List X) (i : ℕ) (y x : X) → slice_get xs i ≡ Some x → slice_get (slice_set xs i y) i ≡ Some y
 set_here [] i y x h = absurd (none-some x h)
 set_here (d ∷ ds) zero y x h = refl
 set_here (d ∷ ds) (suc i) y x h = set_here ds i y x h
 
+-- and elsewhere
 set_elsewhere : {X : Type 0} (xs : List X) (i j : ℕ) (y x : X) → (j ≡ i → ⊥) → slice_get xs j ≡ Some x → slice_get (slice_set xs i y) j ≡ Some x
 set_elsewhere [] i j y x ne h = absurd (none-some x h)
 set_elsewhere (d ∷ ds) zero zero y x ne h = absurd (ne refl)
@@ -70,19 +72,20 @@ set_elsewhere (d ∷ ds) (suc i) (suc j) y x ne h = set_elsewhere ds i j y x (λ
 module _ {P : Type 0} (b : Behaviour P) (q : Question) (found : List Possible) (i : ℕ) (a z : Possible) (stored : slice_get found i ≡ Some a)
     (answers : z.answers.items ≡ a.answers.items) (long : length z.steps.items ≡ length a.steps.items) (sound : HasItsSchedule b q z) (all : AllAnswered b q found) where
   -- the item at index j had the same answers before
-  before : (j : ℕ) (c : Possible) → slice_get (slice_set found i z) j ≡ Some c → (d : Possible) × ((slice_get found j ≡ Some d) × (c.answers.items ≡ d.answers.items))
-  before j c h = elim (new_or_old found i j z c h) [
+  had_before : (j : ℕ) (c : Possible) → slice_get (slice_set found i z) j ≡ Some c → (d : Possible) × ((slice_get found j ≡ Some d) × (c.answers.items ≡ d.answers.items))
+  had_before j c h = elim (replaced_or_kept found i j z c h) [
     | inl p ↦ (a, (ap (slice_get found) p.0 ∙ stored, ap (λ (n : Possible). n.answers.items) (sym p.1) ∙ answers))
     | inr o ↦ (c, (o, refl))
   ]
 
+  -- all is still answered
   pub still_all_answered : AllAnswered b q (slice_set found i z)
   still_all_answered = record {
-    sound = λ j c h. elim (new_or_old found i j z c h) [ inl p ↦ subst (HasItsSchedule b q) p.1 sound | inr o ↦ all.sound j c o ];
+    sound = λ j c h. elim (replaced_or_kept found i j z c h) [ inl p ↦ subst (HasItsSchedule b q) p.1 sound | inr o ↦ all.sound j c o ];
     complete = λ steps schedule. still steps (all.complete steps schedule);
     once = λ j k c d h l e.
-        let o = before j c h in
-        let n = before k d l in
+        let o = had_before j c h in
+        let n = had_before k d l in
         all.once j k o.0 n.0 o.1.0 n.1.0 (sym o.1.1 ∙ (e ∙ n.1.1));
   }
     where

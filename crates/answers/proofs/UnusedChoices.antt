@@ -1,6 +1,6 @@
 -- A bit action that reports no choice leads to the same state with either choice.
 use Rattle.std.proofs.Common.{◌≡◌, ℕ, ◌+◌, ◌/◌, ◌%◌, Bool, true, false, Option, None, Some, refl, sym, ap, subst, ◌∙◌, true≢false, if◌then◌else◌, arith}
-use Rattle.std.specs.Prelude.{◌&&◌, not, MatchOption, ⊤}
+use Rattle.std.specs.Prelude.{◌&&◌, MatchOption, ⊤}
 use Rattle.std.proofs.lemmas.Option.{same_Some}
 use Rattle.safe_bit.specs.Memory.{Memory}
 use Rattle.frames.specs.declared.types.Op.{Op}
@@ -10,24 +10,17 @@ use Rattle.frames.specs.declared.types.Step.TheVariants as step
 use Rattle.frames.specs.declared.running.Running.{Running}
 use Rattle.frames.specs.Behaviour.{Behaviour, IsLawful, Moved}
 use Rattle.frames.specs.Configuration.{Acted, acted, acting_unless, chosen_of, events_of, fits_step, going, in_order, is_enabled, is_stopped, put_acted, return_of, running_at}
-use Rattle.frames.specs.Parked.{IsConfiguration}
+use Rattle.frames.specs.StoredConfiguration.{IsConfiguration}
 use Rattle.answers.specs.declared.question.Question.{Question}
 use Rattle.answers.specs.States.{StateOf, advanced, has_choice, moved, moved_if, step_by, with_events}
 
-pub both_true : (a b : Bool) → a ≡ true → b ≡ true → (a && b) ≡ true
-both_true true true h k = refl
-both_true true false h k = k
-both_true false b h k = h
-
-pub not_true : (b : Bool) → not b ≡ true → b ≡ false
-not_true false h = refl
-not_true true h = sym h
-
+-- if no choice is reported, none is made
 none_chosen : {P : Type 0} (who : ℕ) (chosen : Option (ℕ × Bool)) (next : Next P) → has_choice (in_order (chosen_of who chosen) (return_of who next)) ≡ false → chosen ≡ None
 none_chosen who None next e = refl
 none_chosen who (Some bit) next e = absurd (true≢false e)
 
 module _ {P : Type 0} (b : Behaviour P) (Holds : Memory → Type 0) (Reaches : ℕ → Op → P → Type 0) (lawful : IsLawful b Holds Reaches) where
+  -- a bit action that makes no choice with choice 0 acts alike with choice 1
   going_alike : (who : ℕ) (slot : Option (Running P)) (m : Memory) → Holds m → MatchOption slot ⊤ (λ r. Reaches who r.op r.point)
       → has_choice (going b who false slot m).events ≡ false → going b who true slot m ≡ going b who false slot m
   going_alike who None m h there e = refl

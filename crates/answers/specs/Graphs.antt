@@ -3,7 +3,7 @@ use Rattle.std.specs.Prelude.{◌≡◌, ℕ, zero, suc, ◌*◌, ◌&&◌, Bool
 use Rattle.safe_bit.specs.Memory.{Memory}
 use Rattle.frames.specs.declared.types.Op.{Op}
 use Rattle.frames.specs.Behaviour.{Behaviour}
-use Rattle.frames.specs.Parked.{IsConfiguration}
+use Rattle.frames.specs.StoredConfiguration.{IsConfiguration}
 use Rattle.breadth_first.specs.Shape.{Shape}
 use Rattle.answers.specs.declared.question.Question.{Question}
 use Rattle.answers.specs.Packing.{state_bytes}

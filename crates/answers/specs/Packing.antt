@@ -16,11 +16,12 @@ use Rattle.frames.specs.Behaviour.{Behaviour}
 use Rattle.frames.specs.Flat.{stack_of}
 use Rattle.answers.specs.States.{StateOf}
 
--- four bytes, the lowest first
+-- the four bytes of half a number, the lowest first: a number has at most 64 bits
 abbrev pub half_bytes : ℕ → List ℕ
 half_bytes n = n % 256 ∷ (n / 256) % 256 ∷ (n / 256 / 256) % 256 ∷ n / 256 / 256 / 256 ∷ []
 
--- the bytes of a number: one if it is small, two, or nine
+-- the bytes of a number: one if it is below 192; two if it is below 16128, of which the first is 192
+-- to 254; or else 255 and the bytes of its two halves
 abbrev pub number_bytes : ℕ → List ℕ
 number_bytes n =
     if nat_lt n 192 then n ∷ [] else

@@ -3,6 +3,7 @@
 use Rattle.std.specs.Prelude.{◌≡◌, ℕ, ◌+◌, ◌<◌, ◌≤◌, ◌==◌, ◌&&◌, ◌||◌, not, nat_lt, Bool, true, ⊤, ◌⊎◌, List, [], ◌∷◌, ◌++◌, Option, None, Some, length, slice_get, slice_index_or, if◌then◌else◌}
 use Rattle.std.specs.Global.{Vec}
 use Rattle.std.specs.List.{list_all, list_any}
+use Rattle.std.specs.Option.{option_to_list}
 use Rattle.frames.specs.declared.types.Op.{Op}
 use Rattle.frames.specs.declared.types.Outcome.{Outcome}
 use Rattle.frames.specs.declared.types.Outcome.TheVariants.{Value, Written, Spent}
@@ -14,17 +15,12 @@ use Rattle.frames.specs.Behaviour.{Behaviour}
 use Rattle.frames.specs.Configuration.{running_at, is_stopped, history}
 use Rattle.frames.specs.Recorded.{AllFit, first_configuration, configuration_after}
 use Rattle.answers.specs.declared.question.After.{After}
-use Rattle.answers.specs.declared.question.Nth.{Nth}
+use Rattle.answers.specs.declared.question.NthOp.{NthOp}
 use Rattle.answers.specs.declared.question.Question.{Question}
-
--- the event as a list of one item; an empty list if there is no event
-abbrev pub event_in : Option Event → List Event
-event_in None = []
-event_in (Some event) = event ∷ []
 
 -- the events of one step, in order
 abbrev pub events_in : StepEvents → List Event
-events_in events = event_in events.first ++ event_in events.second
+events_in events = option_to_list events.first ++ option_to_list events.second
 
 -- the events of a history, in order
 abbrev pub all_events : List StepEvents → List Event
@@ -104,13 +100,13 @@ pub record HasAnswers {P : Type 0} (b : Behaviour P) (value : ℕ) (steps : List
   pub for_each : length answers ≡ b.processes
   pub in_order : (p : ℕ) → slice_index_or answers p [] ≡ outcomes_by p (events_after b value steps)
 
--- whether there is such an operation
-abbrev pub is_named : Question → Nth → Bool
-is_named q n = nat_lt n.index (length (operations_of q n.process))
+-- whether the question has this operation
+abbrev pub is_asked : Question → NthOp → Bool
+is_asked q n = nat_lt n.index (length (operations_of q n.process))
 
--- whether both operations that `a` names exist
-abbrev pub are_named : Question → After → Bool
-are_named q a = is_named q a.later && is_named q a.earlier
+-- whether the question has both operations that `a` names
+abbrev pub are_asked : Question → After → Bool
+are_asked q a = is_asked q a.later && is_asked q a.earlier
 
 -- The operations a question has are the register's: its initial value is one of the register's
 -- values, there are no more lists than processes, each operation fits its process, and `after`
@@ -119,7 +115,7 @@ pub record AreOperationsOf {P : Type 0} (b : Behaviour P) (q : Question) : Type 
   pub value : q.value < b.values
   pub lists : length q.operations.items ≤ b.processes
   pub suit : (p : ℕ) → list_all (b.suits p) (operations_of q p) ≡ true
-  pub named : list_all (are_named q) q.after.items ≡ true
+  pub named : list_all (are_asked q) q.after.items ≡ true
 
 -- No operation has to follow itself: operations have ranks, greater ones after smaller ones. Each
 -- operation's rank is greater than that of the same process's operation before it, and than those

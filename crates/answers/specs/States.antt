@@ -1,8 +1,6 @@
 -- The states of a search for answers, and their moves.
-use Rattle.std.specs.Prelude.{◌≡◌, ℕ, ◌<◌, ◌==◌, ◌&&◌, ◌/◌, ◌%◌, ◌||◌, Bool, true, false, List, [], ◌∷◌, ◌++◌, Option, None, Some, length, slice_set, slice_index_or, is_none, replicate, if◌then◌else◌}
+use Rattle.std.specs.Prelude.{◌≡◌, ℕ, ◌<◌, ◌==◌, ◌&&◌, ◌/◌, ◌%◌, ◌||◌, Bool, true, false, List, [], ◌++◌, Option, None, Some, length, slice_set, slice_index_or, is_none, replicate, if◌then◌else◌}
 use Rattle.std.specs.Option.{option_map}
-use Rattle.frames.specs.declared.types.Op.{Op}
-use Rattle.frames.specs.declared.types.Op.TheVariants as op
 use Rattle.frames.specs.declared.types.Outcome.{Outcome}
 use Rattle.frames.specs.declared.types.Event.{Event}
 use Rattle.frames.specs.declared.types.Event.TheVariants.{Chosen}
@@ -10,9 +8,9 @@ use Rattle.frames.specs.declared.types.StepEvents.{StepEvents}
 use Rattle.frames.specs.declared.types.Step.{Step}
 use Rattle.frames.specs.declared.types.Step.TheVariants as step
 use Rattle.frames.specs.Behaviour.{Behaviour}
-use Rattle.frames.specs.Steps.{process_of}
+use Rattle.frames.specs.Steps.{process_of, invoking_step}
 use Rattle.frames.specs.Configuration.{Configuration, initial_configuration, running_at, is_stopped, fits_step, is_enabled, stepped, events_of}
-use Rattle.frames.specs.Recorded.{Alone, AllFit, configuration_after}
+use Rattle.frames.specs.Recorded.{LoneConfiguration, AllFit, configuration_after, without_register}
 use Rattle.answers.specs.declared.question.Question.{Question}
 use Rattle.answers.specs.Questions.{outcomes_by, events_in, events_after, next_of, operations_of, process_may_stop, AreAllowed}
 
@@ -32,19 +30,9 @@ advanced b x s = record {
   answers = with_events (process_of s) (events_of b x.configuration s) x.answers;
 }
 
--- an option as a list of at most one item
-abbrev pub option_list : {X : Type 0} → Option X → List X
-option_list None = []
-option_list (Some x) = x ∷ []
-
 -- the number of operations that each process has ended
 abbrev pub ended_counts : List (List Outcome) → ℕ → ℕ
 ended_counts answers r = length (slice_index_or answers r [])
-
--- the step by which process p invokes an operation
-abbrev pub invoking_step : ℕ → Op → Step
-invoking_step p (op.Write v) = step.Write p v
-invoking_step p op.Read = step.Read p
 
 -- The step of process p that `kind` names: a bit action with choice 0 or 1, the invocation of its
 -- next operation, or a stop. `None` if p may not make it.
@@ -85,14 +73,10 @@ is_over q x p = is_stopped p x.configuration || (is_none (running_at p x.configu
 abbrev pub AreAllOver : {R P : Type 0} → Behaviour P → Question → StateOf R P → Type 0
 AreAllOver b q x = (p : ℕ) → p < b.processes → is_over q x p ≡ true
 
--- the configuration without its register
-abbrev pub configuration_alone : {R P : Type 0} → Configuration R P → Alone P
-configuration_alone c = record { register = tt; memory = c.memory; running = c.running; stopped = c.stopped }
-
 -- x is the state after these steps; `is` gives the behaviour of a register
 pub record IsStateAfter {R P : Type 0} (is : R → Behaviour P) (b : Behaviour P) (value : ℕ) (steps : List Step) (x : StateOf R P) : Type 0 where
   pub behaves : is x.configuration.register ≡ b
-  pub shows : configuration_alone x.configuration ≡ configuration_after b value steps
+  pub shows : without_register x.configuration ≡ configuration_after b value steps
   pub each : length x.answers ≡ b.processes
   pub answered : (p : ℕ) → slice_index_or x.answers p [] ≡ outcomes_by p (events_after b value steps)
 

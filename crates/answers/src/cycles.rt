@@ -4,11 +4,11 @@ ghost use Rattle.std.specs.Prelude.{◌≡◌, ℕ, ◌<◌, ◌≤◌, ◌++◌
 ghost use Rattle.std.specs.Bool.{Decides};
 ghost use Rattle.std.specs.List.{list_all};
 ghost use Rattle.frames.specs.declared.types.Outcome.TheVariants.{Written};
-ghost use Rattle.answers.specs.Questions.{IsAcyclic, are_named, next_of, operations_of};
+ghost use Rattle.answers.specs.Questions.{IsAcyclic, are_asked, next_of, operations_of};
 ghost use Rattle.answers.specs.States.{ended_counts};
 
 use crate::done::op_count;
-use crate::moves::{ended, next_op};
+use crate::moves::{ended_count, next_op};
 use crate::outcomes::{Outcomes, no_answers};
 use crate::question::Question;
 use frames::types::Outcome;
@@ -46,7 +46,7 @@ fn have_all_ended(question: &Question, processes: u32, answers: &[Outcomes]) -> 
         → ended_counts answers.now p ≡ length (operations_of question.now p)) }
 {
     for p in 0..processes {
-        if ended(answers, p) != op_count(question, p) {
+        if ended_count(answers, p) != op_count(question, p) {
             return false;
         }
     }
@@ -61,7 +61,7 @@ pub(crate) fn is_acyclic(
     processes: u32,
 ) -> Result<bool, AllocError>
     requires lists { length question.now.operations.items ≤ processes }
-    requires named { list_all (are_named question.now) question.now.after.items ≡ true }
+    requires named { list_all (are_asked question.now) question.now.after.items ≡ true }
     ensures { IfOk result (λ yes. Decides yes (IsAcyclic question.now)) }
 {
     let mut answers = no_answers(alloc, processes)?;

@@ -5,7 +5,7 @@ ghost use Rattle.std.specs.Bool.{Decides};
 ghost use Rattle.answers.specs.Questions.{operations_of};
 ghost use Rattle.answers.specs.States.{is_over, AreAllOver};
 
-use crate::moves::{Moves, ended};
+use crate::moves::{Moves, ended_count};
 use crate::question::Question;
 use crate::state::State;
 use frames::register::Register;
@@ -25,7 +25,8 @@ fn is_over<R: Register>(question: &Question, state: &State<R>, p: u32) -> bool
     ensures { result ≡ is_over question.now state.now p }
 {
     state.config.stopped(p)
-        || (state.config.op(p).is_none() && ended(state.answers(), p) == op_count(question, p))
+        || (state.config.op(p).is_none()
+            && ended_count(state.answers(), p) == op_count(question, p))
 }
 
 /// Whether each process has stopped, or is idle and has ended all its operations.

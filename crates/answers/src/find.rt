@@ -16,7 +16,7 @@ ghost use Rattle.answers.specs.Gathered.{AreTooManyStates, IsBuilding, IsGathere
 use crate::fits::fits;
 use crate::found::{Found, Possible, Unfound};
 use crate::key::StateKey;
-use crate::moves::{KINDS, Moves, copies, step_by};
+use crate::moves::{KINDS, Moves, copy_answers, step_by};
 use crate::outcomes::{Outcomes, no_answers};
 use crate::question::Question;
 use crate::state::State;
@@ -126,7 +126,7 @@ fn walk_to<'q, R: Register>(
 }
 
 /// Whether these answers are those of `possible`.
-fn has(possible: &Possible, answers: &[Outcomes]) -> bool
+fn has_answers(possible: &Possible, answers: &[Outcomes]) -> bool
     ensures { result ≡ answers_eq possible.now.answers.items answers.now }
 {
     possible.answers.as_slice() == answers
@@ -136,7 +136,7 @@ fn has(possible: &Possible, answers: &[Outcomes]) -> bool
 fn is_listed(found: &[Possible], answers: &[Outcomes]) -> bool
     ensures { result ≡ list_any (λ a. answers_eq a.answers.items answers.now) found.now }
 {
-    found.iter().any(|possible| has(possible, answers))
+    found.iter().any(|possible| has_answers(possible, answers))
 }
 
 /// Lists the answers of the state at `index`, if it is done, and they aren't listed.
@@ -172,7 +172,7 @@ fn gather_one<'q, R: Register>(
     if is_listed(found, state.answers()) {
         return Ok(());
     }
-    let Ok(answers) = copies(alloc, state.answers()) else {
+    let Ok(answers) = copy_answers(alloc, state.answers()) else {
         return Err(AllocError);
     };
     let Ok(()) = found.push(Possible { answers, steps }) else {

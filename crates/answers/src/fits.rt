@@ -3,11 +3,11 @@
 ghost use Rattle.std.specs.Prelude.{◌≡◌, ℕ, ◌≤◌, ◌&&◌, true, IfOk, length};
 ghost use Rattle.std.specs.Bool.{Decides};
 ghost use Rattle.std.specs.List.{list_all};
-ghost use Rattle.answers.specs.Questions.{AreOperationsOf, FitsQuestion, are_named, is_named, operations_of};
+ghost use Rattle.answers.specs.Questions.{AreOperationsOf, FitsQuestion, are_asked, is_asked, operations_of};
 
 use crate::cycles::is_acyclic;
 use crate::done::op_count;
-use crate::question::{After, Nth, Question};
+use crate::question::{After, NthOp, Question};
 use frames::register::Register;
 use frames::types::Op;
 use std::alloc::{AllocError, Global};
@@ -44,28 +44,28 @@ fn all_operations_fit<R: Register>(register: &R, question: &Question) -> bool
     true
 }
 
-/// Whether there is such an operation.
-fn is_named(question: &Question, nth: Nth) -> bool
-    ensures { result ≡ is_named question.now nth }
+/// Whether the question has this operation.
+fn is_asked(question: &Question, nth: NthOp) -> bool
+    ensures { result ≡ is_asked question.now nth }
 {
     (nth.index as usize) < op_count(question, nth.process)
 }
 
-/// Whether both operations that `after` names exist.
-fn are_named(question: &Question, after: &After) -> bool
-    ensures { result ≡ are_named question.now after.now }
+/// Whether the question has both operations that `after` names.
+fn are_asked(question: &Question, after: &After) -> bool
+    ensures { result ≡ are_asked question.now after.now }
 {
-    is_named(question, after.later) && is_named(question, after.earlier)
+    is_asked(question, after.later) && is_asked(question, after.earlier)
 }
 
-/// Whether all operations that the question's `after` names exist.
-fn all_named(question: &Question) -> bool
-    ensures { result ≡ list_all (are_named question.now) question.now.after.items }
+/// Whether the question has all operations that its `after` names.
+fn all_asked(question: &Question) -> bool
+    ensures { result ≡ list_all (are_asked question.now) question.now.after.items }
 {
     question
         .after
         .iter()
-        .all(|after| are_named(question, after))
+        .all(|after| are_asked(question, after))
 }
 
 /// Whether the question's initial value is one of the register's values, each operation fits its
@@ -82,7 +82,7 @@ fn is_well_formed<R: Register>(register: &R, question: &Question) -> bool
     if !all_operations_fit(register, question) {
         return false;
     }
-    all_named(question)
+    all_asked(question)
 }
 
 /// Whether the question fits the register: its initial value is one of the register's values, each

@@ -63,6 +63,7 @@ impl StateKey {
         Ok(StateKey { bytes })
     }
 
+    /// The bytes of the state.
     fn as_bytes(&self) -> &[u8]
         ensures { result.now ≡ self.now }
     {

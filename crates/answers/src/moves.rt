@@ -2,9 +2,11 @@
 
 ghost use Rattle.std.specs.Prelude.{◌≡◌, ◌<◌, ◌++◌, [], true, false, IfOk, OnOk, slice_get, slice_index_or, slice_set};
 ghost use Rattle.std.specs.List.{list_all};
+ghost use Rattle.std.specs.Option.{option_to_list};
 ghost use Rattle.frames.specs.Configuration.{events_of, is_enabled, fits_step};
-ghost use Rattle.answers.specs.Questions.{allows, next_of, operations_of, process_may_stop, outcomes_by, event_in, events_in};
-ghost use Rattle.answers.specs.States.{advanced, ended_counts, has_choice, invoking_step, option_list, step_by, with_events};
+ghost use Rattle.frames.specs.Steps.{invoking_step};
+ghost use Rattle.answers.specs.Questions.{allows, next_of, operations_of, process_may_stop, outcomes_by, events_in};
+ghost use Rattle.answers.specs.States.{advanced, ended_counts, has_choice, step_by, with_events};
 
 use crate::done::is_done;
 use crate::key::StateKey;
@@ -41,7 +43,7 @@ impl<'q, R: Register> Graph for Moves<'q, R> {
 
     ghost Holds = { λ g. IsStateOf (R.behaviour g.register) (R.Holds g.register) (R.Reaches g.register) g.register };
 
-    fn count(&self) -> usize {
+    fn label_count(&self) -> usize {
         self.register.processes() as usize * KINDS
     }
 
@@ -84,7 +86,7 @@ impl<'q, R: Register> Graph for Moves<'q, R> {
 }
 
 /// The number of operations that process `p` has ended.
-pub(crate) fn ended(answers: &[Outcomes], p: u32) -> usize
+pub(crate) fn ended_count(answers: &[Outcomes], p: u32) -> usize
     ensures { result ≡ ended_counts answers.now p }
 {
     match answers.get(p as usize) {
@@ -98,9 +100,9 @@ fn allows(answers: &[Outcomes], p: u32, after: &After) -> bool
     ensures { result ≡ allows (ended_counts answers.now) p after.now }
 {
     let later = after.later;
-    let is_next = later.process == p && later.index as usize == ended(answers, p);
+    let is_next = later.process == p && later.index as usize == ended_count(answers, p);
     let earlier = after.earlier;
-    !is_next || (earlier.index as usize) < ended(answers, earlier.process)
+    !is_next || (earlier.index as usize) < ended_count(answers, earlier.process)
 }
 
 /// Whether each of these lets process `p` invoke its next operation.
@@ -135,7 +137,7 @@ pub(crate) fn next_op(question: &Question, answers: &[Outcomes], p: u32) -> Opti
     ensures { result ≡ next_of question.now (ended_counts answers.now) p }
 {
     if all_allow(answers, p, &question.after) {
-        nth_op(question, p, ended(answers, p))
+        nth_op(question, p, ended_count(answers, p))
     } else {
         None
     }
@@ -213,7 +215,7 @@ fn has_choice(events: StepEvents) -> bool
 }
 
 /// A copy of each process's outcomes, in the same order.
-pub(crate) fn copies(alloc: Global, answers: &[Outcomes]) -> Result<Vec<Outcomes>, AllocError>
+pub(crate) fn copy_answers(alloc: Global, answers: &[Outcomes]) -> Result<Vec<Outcomes>, AllocError>
     ensures { IfOk result (λ copied. copied.items ≡ answers.now) }
 {
     let mut copied = Vec::with_capacity(alloc, answers.len())?;
@@ -233,7 +235,7 @@ pub(crate) fn ends(p: u32, events: StepEvents) -> bool
 
 /// The outcome of process `p`'s operation that ends in this event, if one does.
 fn outcome_in(p: u32, event: Option<Event>) -> Option<Outcome>
-    ensures { option_list result ≡ outcomes_by p (event_in event) }
+    ensures { option_to_list result ≡ outcomes_by p (option_to_list event) }
 {
     match event? {
         Event::Got(q, v) if q == p => Some(Outcome::Value(v)),
@@ -262,13 +264,13 @@ pub(crate) fn add_events(
 fn add_ended(own: &mut Outcomes, p: u32, events: StepEvents) -> Result<(), AllocError>
     ensures { OnOk result (own.new ≡ own.old ++ outcomes_by p (events_in events)) }
 {
-    add(own, p, events.first)?;
-    add(own, p, events.second)
+    add_outcome(own, p, events.first)?;
+    add_outcome(own, p, events.second)
 }
 
 /// If an operation of process `p` ends in this event, adds its outcome.
-fn add(outcomes: &mut Outcomes, p: u32, event: Option<Event>) -> Result<(), AllocError>
-    ensures { OnOk result (outcomes.new ≡ outcomes.old ++ outcomes_by p (event_in event)) }
+fn add_outcome(outcomes: &mut Outcomes, p: u32, event: Option<Event>) -> Result<(), AllocError>
+    ensures { OnOk result (outcomes.new ≡ outcomes.old ++ outcomes_by p (option_to_list event)) }
 {
     match outcome_in(p, event) {
         Some(outcome) => outcomes.push(outcome),

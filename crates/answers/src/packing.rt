@@ -17,6 +17,7 @@ use std::alloc::{AllocError, Global};
 /// Room for the bytes of most states.
 const ROOM: usize = 256;
 
+/// A number below 32 for a cell: a bit for each of its fields, and two for the value being written.
 #[inline]
 fn cell_code(cell: Cell) -> u64
     ensures { result ≡ spec.cell_code cell }
@@ -32,6 +33,7 @@ fn cell_code(cell: Cell) -> u64
     value + writing + reading + hit
 }
 
+/// A number for an operation: 0 for a read, one more than its value for a write.
 fn op_code(op: Op) -> u64
     ensures code { result ≡ spec.op_code op }
     ensures low { result ≤ 2 ^ 32 }
@@ -42,6 +44,7 @@ fn op_code(op: Op) -> u64
     }
 }
 
+/// A number for a frame's layer; one for all layers with names of their own.
 fn layer_code(layer: FrameLayer) -> u64
     ensures code { result ≡ spec.layer_code layer }
     ensures low { result ≤ 7 }
@@ -58,6 +61,7 @@ fn layer_code(layer: FrameLayer) -> u64
     }
 }
 
+/// A number for an outcome: 0 to 2 for one without a value, or else three more than its value.
 fn outcome_code(outcome: Outcome) -> u64
     ensures { result ≡ spec.outcome_code outcome }
 {
@@ -68,6 +72,7 @@ fn outcome_code(outcome: Outcome) -> u64
     }
 }
 
+/// The number for the outcome that a layer's stamps or tags are spent.
 fn spent_code(layer: Layer) -> u64
     ensures { result ≡ spec.outcome_code (Spent layer) }
 {
@@ -112,7 +117,7 @@ fn add_half(bytes: &mut Vec<u8>, number: u64) -> Result<(), AllocError>
     Ok(())
 }
 
-/// Adds the bytes of a number that isn't small.
+/// Adds the bytes of a number that isn't small: two if its first one is below 255, or else nine.
 // (not inlined, so that what adds a small number stays short)
 #[inline(never)]
 fn add_large(bytes: &mut Vec<u8>, number: u64) -> Result<(), AllocError>
@@ -129,6 +134,7 @@ fn add_large(bytes: &mut Vec<u8>, number: u64) -> Result<(), AllocError>
     add_half(bytes, number / (1 << 32))
 }
 
+/// Adds the bytes of a number: one, if it is below 192.
 #[inline(always)]
 fn add_number(bytes: &mut Vec<u8>, number: u64) -> Result<(), AllocError>
     ensures { OnOk result (bytes.new.items ≡ bytes.old.items ++ spec.number_bytes number) }
@@ -162,6 +168,7 @@ fn add_after(bytes: &mut Vec<u8>, gap: u64, number: u64) -> Result<u64, AllocErr
     Ok(0)
 }
 
+/// Adds the numbers for a list of cells, which are below 32 and mostly 0.
 fn add_cells(bytes: &mut Vec<u8>, cells: &[Cell]) -> Result<(), AllocError>
     requires { length cells.now < 2 ^ 32 }
     ensures { OnOk result (bytes.new.items
@@ -174,6 +181,7 @@ fn add_cells(bytes: &mut Vec<u8>, cells: &[Cell]) -> Result<(), AllocError>
     add_number(bytes, 2 * gap)
 }
 
+/// Adds the numbers for a list of words, which are mostly 0.
 fn add_words(bytes: &mut Vec<u8>, words: &[u32]) -> Result<(), AllocError>
     requires { length words.now < 2 ^ 32 }
     ensures { OnOk result (bytes.new.items
@@ -186,6 +194,7 @@ fn add_words(bytes: &mut Vec<u8>, words: &[u32]) -> Result<(), AllocError>
     add_number(bytes, 2 * gap)
 }
 
+/// Adds the numbers for all cells and words of a store.
 fn add_store(bytes: &mut Vec<u8>, store: &Store) -> Result<(), AllocError>
     ensures { OnOk result (bytes.new.items
         ≡ bytes.old.items ++ spec.packed (spec.memory_numbers store.now)) }
@@ -195,6 +204,7 @@ fn add_store(bytes: &mut Vec<u8>, store: &Store) -> Result<(), AllocError>
     add_words(bytes, store.words())
 }
 
+/// Adds the letters of a layer's own name, if it has one.
 fn add_name(bytes: &mut Vec<u8>, layer: FrameLayer) -> Result<(), AllocError>
     ensures { OnOk result (bytes.new.items
         ≡ bytes.old.items ++ spec.packed (spec.name_numbers layer)) }
@@ -207,6 +217,7 @@ fn add_name(bytes: &mut Vec<u8>, layer: FrameLayer) -> Result<(), AllocError>
     Ok(())
 }
 
+/// Adds the numbers for a frame.
 fn add_frame(bytes: &mut Vec<u8>, frame: Frame) -> Result<(), AllocError>
     ensures { OnOk result (bytes.new.items
         ≡ bytes.old.items ++ spec.packed (spec.frame_numbers frame)) }
@@ -217,6 +228,7 @@ fn add_frame(bytes: &mut Vec<u8>, frame: Frame) -> Result<(), AllocError>
     add_name(bytes, frame.layer)
 }
 
+/// Adds the numbers for frames, without their count.
 fn add_frames(bytes: &mut Vec<u8>, frames: &[Frame]) -> Result<(), AllocError>
     ensures { OnOk result (bytes.new.items
         ≡ bytes.old.items ++ spec.packed (spec.frames_numbers frames.now)) }
@@ -227,6 +239,7 @@ fn add_frames(bytes: &mut Vec<u8>, frames: &[Frame]) -> Result<(), AllocError>
     Ok(())
 }
 
+/// Adds the numbers for a stack and a stop mark: one for the count and the mark, then the frames'.
 fn add_stack(bytes: &mut Vec<u8>, frames: &[Frame], stopped: bool) -> Result<(), AllocError>
     requires { length frames.now ≤ STACK_FRAMES }
     ensures { OnOk result (bytes.new.items
@@ -237,6 +250,7 @@ fn add_stack(bytes: &mut Vec<u8>, frames: &[Frame], stopped: bool) -> Result<(),
     add_frames(bytes, frames)
 }
 
+/// Adds the numbers for outcomes: their count, and one for each.
 fn add_outcomes(bytes: &mut Vec<u8>, outcomes: &[Outcome]) -> Result<(), AllocError>
     ensures { OnOk result (bytes.new.items
         ≡ bytes.old.items ++ spec.packed (spec.outcomes_numbers outcomes.now)) }
@@ -276,6 +290,7 @@ fn add_answers(bytes: &mut Vec<u8>, answers: &[Outcomes], p: u32) -> Result<(), 
     }
 }
 
+/// Adds the numbers for process `p`: for its frames, its stop mark and its outcomes.
 fn add_process<R: Register>(
     bytes: &mut Vec<u8>,
     config: &Config<R>,

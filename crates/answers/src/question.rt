@@ -4,7 +4,7 @@ use frames::types::Op;
 
 /// Operation `index` of process `process`. Both are counted from 0.
 #[derive(Clone, Copy, Debug, PartialEq, Eq)]
-pub struct Nth {
+pub struct NthOp {
     pub process: u32,
     pub index: u32,
 }
@@ -12,8 +12,8 @@ pub struct Nth {
 /// The later operation is invoked only after the earlier one has ended.
 #[derive(Clone, Copy, Debug, PartialEq, Eq)]
 pub struct After {
-    pub later: Nth,
-    pub earlier: Nth,
+    pub later: NthOp,
+    pub earlier: NthOp,
 }
 
 /// What is asked: the register's initial value; for each process the operations that it makes, in

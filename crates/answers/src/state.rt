@@ -5,7 +5,7 @@ ghost use Rattle.std.specs.Rc.{rc_value};
 ghost use Rattle.frames.specs.Configuration.{events_of, fits_step};
 ghost use Rattle.answers.specs.States.{advanced, with_events};
 
-use crate::moves::{add_events, copies, ends};
+use crate::moves::{add_events, copy_answers, ends};
 use crate::outcomes::Outcomes;
 use frames::config::Config;
 use frames::register::Register;
@@ -113,7 +113,7 @@ impl<R: Register> State<R> {
         if !ends(p, events) {
             return self.answers.clone();
         }
-        let mut answers = copies(alloc, self.answers())?;
+        let mut answers = copy_answers(alloc, self.answers())?;
         add_events(&mut answers, p, events)?;
         let answers = Rc::new(alloc, answers)?;
         Ok(answers)

@@ -1,6 +1,6 @@
 pub mod Lists
 pub mod LimbLists
-pub mod LimbLaws
+pub mod LimbsAgain
 pub mod LimbsLawful
 pub mod LimbsKept
 pub mod JudgedLimbs

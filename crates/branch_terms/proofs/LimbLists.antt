@@ -9,28 +9,21 @@ use Rattle.branch_terms.specs.Forest.{Branch, is_cell, slot, numbered, slots_in,
 use Rattle.branch_terms.specs.Limbs.{has_slot, holds, is_in_branches}
 
 -- a cell in a list is the first one, or is in the rest
-pub slot_cases : (x : ℕ) (s : Slot) (xs : List Slot) (P : Type 0) → has_slot x (s ∷ xs) ≡ true → (x ≡ s.cell → P) → (has_slot x xs ≡ true → P) → P
-slot_cases x s xs P h same rest = by (nat_eq s.cell x) refl
+pub has_slot_cases : (x : ℕ) (s : Slot) (xs : List Slot) (P : Type 0) → has_slot x (s ∷ xs) ≡ true → (x ≡ s.cell → P) → (has_slot x xs ≡ true → P) → P
+has_slot_cases x s xs P h same rest = by (nat_eq s.cell x) refl
   where
     by : (b : Bool) → nat_eq s.cell x ≡ b → P
     by true e = same (sym (eqb-true s.cell x e))
     by false e = rest (sym (ap (λ b. b || has_slot x xs) e) ∙ h)
 
-pub slot-head : (s : Slot) (xs : List Slot) → has_slot s.cell (s ∷ xs) ≡ true
-slot-head s xs = ap (λ b. b || has_slot s.cell xs) (eq-eqb s.cell s.cell refl)
+pub has_slot-head : (s : Slot) (xs : List Slot) → has_slot s.cell (s ∷ xs) ≡ true
+has_slot-head s xs = ap (λ b. b || has_slot s.cell xs) (eq-eqb s.cell s.cell refl)
 
-pub slot-tail : (x : ℕ) (s : Slot) (xs : List Slot) → has_slot x xs ≡ true → has_slot x (s ∷ xs) ≡ true
-slot-tail x s xs h = or_right (nat_eq s.cell x) (has_slot x xs) h
+pub has_slot-tail : (x : ℕ) (s : Slot) (xs : List Slot) → has_slot x xs ≡ true → has_slot x (s ∷ xs) ≡ true
+has_slot-tail x s xs h = or_right (nat_eq s.cell x) (has_slot x xs) h
 
-pub slot-append : (x : ℕ) (xs ys : List Slot) → has_slot x (xs ++ ys) ≡ (has_slot x xs || has_slot x ys)
-slot-append x xs ys = list_any-append (is_cell x) xs ys
-
-pub slot_not_from : (x : ℕ) (xs : List Slot) → (has_slot x xs ≡ true → ⊥) → has_slot x xs ≡ false
-slot_not_from x xs h = by (has_slot x xs) refl
-  where
-    by : (b : Bool) → has_slot x xs ≡ b → has_slot x xs ≡ false
-    by true e = absurd (h e)
-    by false e = e
+pub has_slot-append : (x : ℕ) (xs ys : List Slot) → has_slot x (xs ++ ys) ≡ (has_slot x xs || has_slot x ys)
+has_slot-append x xs ys = list_any-append (is_cell x) xs ys
 
 pub slots_in-front : (bs : List Branch) (b : Branch) (i : ℕ) → i < length bs → slots_in (bs ++ b ∷ []) i ≡ slots_in bs i
 slots_in-front [] b i h = absurd (omega arith)
@@ -128,21 +121,21 @@ prefix_is test (x ∷ xs) ys all stops = by (λ h. prefix_is test xs ys h stops)
 pub all_in : (bs : List Branch) (xs : List Slot) → ((x : ℕ) → has_slot x xs ≡ true → list_any (holds x) bs ≡ true) → list_all (is_in_branches bs) xs ≡ true
 all_in bs [] h = refl
 all_in bs (s ∷ xs) h =
-    ap (λ c. c && list_all (is_in_branches bs) xs) (h s.cell (slot-head s xs))
-    ∙ all_in bs xs (λ x e. h x (slot-tail x s xs e))
+    ap (λ c. c && list_all (is_in_branches bs) xs) (h s.cell (has_slot-head s xs))
+    ∙ all_in bs xs (λ x e. h x (has_slot-tail x s xs e))
 
 pub has_taken : (k x : ℕ) (xs : List Slot) → has_slot x (take k xs) ≡ true → has_slot x xs ≡ true
 has_taken zero x xs h = absurd (true≢false (sym h))
 has_taken (suc k) x [] h = absurd (true≢false (sym h))
 has_taken (suc k) x (s ∷ xs) h =
-    slot_cases x s (take k xs) (has_slot x (s ∷ xs) ≡ true) h
-    (λ same. subst (λ y. has_slot y (s ∷ xs) ≡ true) (sym same) (slot-head s xs))
-    (λ rest. slot-tail x s xs (has_taken k x xs rest))
+    has_slot_cases x s (take k xs) (has_slot x (s ∷ xs) ≡ true) h
+    (λ same. subst (λ y. has_slot y (s ∷ xs) ≡ true) (sym same) (has_slot-head s xs))
+    (λ rest. has_slot-tail x s xs (has_taken k x xs rest))
 
 pub cell_in-has : (xs : List Slot) (k : ℕ) → k < length xs → has_slot (cell_in xs k) xs ≡ true
 cell_in-has [] k h = absurd (omega arith)
-cell_in-has (s ∷ xs) zero h = slot-head s xs
-cell_in-has (s ∷ xs) (suc k) h = slot-tail (cell_in xs k) s xs (cell_in-has xs k (omega arith))
+cell_in-has (s ∷ xs) zero h = has_slot-head s xs
+cell_in-has (s ∷ xs) (suc k) h = has_slot-tail (cell_in xs k) s xs (cell_in-has xs k (omega arith))
 
 pub cell_in-taken : (xs ys : List Slot) (n k : ℕ) → k < n → n ≤ length xs → cell_in (take n xs ++ ys) k ≡ cell_in xs k
 cell_in-taken xs ys zero k less few = absurd (omega arith)
@@ -174,6 +167,6 @@ steps-numbered n (s ∷ ss) = ap (λ l. s ∷ l) (steps-numbered (suc n) ss)
 pub numbered_below : (n : ℕ) (steps : List Step) (x : ℕ) → has_slot x (numbered n steps) ≡ true → x < n + length steps
 numbered_below n [] x h = absurd (true≢false (sym h))
 numbered_below n (s ∷ ss) x h =
-    slot_cases x (slot n s) (numbered (suc n) ss) (x < n + suc (length ss)) h
+    has_slot_cases x (slot n s) (numbered (suc n) ss) (x < n + suc (length ss)) h
     (λ e. omega arith)
     (λ r. let p = numbered_below (suc n) ss x r in omega arith)

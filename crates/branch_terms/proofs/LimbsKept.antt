@@ -8,10 +8,10 @@ use Rattle.schedule_steps.specs.declared.types.Step.{Step}
 use Rattle.branch_terms.specs.declared.slot.Slot.{Slot}
 use Rattle.branch_terms.specs.declared.limb.Limb.{Limb}
 use Rattle.branch_terms.specs.Forest.{Forest, Branch, branch, numbered, slots_in, step_of, cell_in, name_of, IsForest}
-use Rattle.branch_terms.specs.Limbs.{has_slot, holds, is_in_branches, shared_with, first_with, limb_of, limbs_after, limbs, slots_on, grown, grow, no_branches, forest_of}
+use Rattle.branch_terms.specs.Limbs.{has_slot, holds, is_in_branches, shared_with, first_with, limb_of, limbs_after, limbs, slots_on, with_limb, with_limbs, no_branches, forest_of}
 use Rattle.branch_terms.specs.Renumbering.{IsRenumbered, is_one_cell}
 use Rattle.branch_terms.proofs.LimbLists.{slots_in-front, slots_in-last, slots_in-past, any_from, IsFirst, first_has, all_in, has_taken, cell_in-has, cell_in-taken, steps-numbered}
-use Rattle.branch_terms.proofs.LimbLaws.{HasGrown, grown_none, shared_within_stem, grown_more, limbs_after-put}
+use Rattle.branch_terms.proofs.LimbsAgain.{IsBuiltFrom, built_from_none, shared_within_stem, built_from_more, limbs_after-put}
 use Rattle.branch_terms.proofs.LimbsLawful.{AreSameUpTo, slots_in-left, slots_in-next, place_of_cell, passes_at, limb_may_share}
 use Rattle.branch_terms.proofs.Lists.{by_order, cell_in_at, slice_get_some, nat_eq_symmetric, nat_eq_alike}
 use Rattle.branch_terms.proofs.LimbLists.{length-numbered}
@@ -140,7 +140,7 @@ forest_with branches = record { branches = branches; made = 0 }
 -- g. Branch b is added to the first side, and the limb of b to the second.
 module _ (earlier : List Branch) (b : Branch) (agree : (j : ℕ) → j < length earlier → AreSameUpTo b.slots (slots_in earlier j))
     (once : AreSameUpTo b.slots b.slots)
-    (g : Forest) (has_grown : HasGrown (limbs_after [] earlier) g) (kept : IsRenumbered (forest_with earlier) g) where
+    (g : Forest) (built : IsBuiltFrom (limbs_after [] earlier) g) (kept : IsRenumbered (forest_with earlier) g) where
   -- the limb of b
   abbrev l : Limb
   l = limb_of earlier b
@@ -163,7 +163,7 @@ module _ (earlier : List Branch) (b : Branch) (agree : (j : ℕ) → j < length 
 
   -- there are at least as many of these cells as the limb shares
   enough : l.shared ≤ length origin
-  enough = shared_within_stem (limbs_after [] earlier) g l has_grown (limb_may_share earlier b agree)
+  enough = shared_within_stem (limbs_after [] earlier) g l built (limb_may_share earlier b agree)
 
   -- both sides have the same number of branches before b and its limb are added
   count : length earlier ≡ length g.branches
@@ -295,7 +295,7 @@ module _ (earlier : List Branch) (b : Branch) (agree : (j : ℕ) → j < length 
   old_below : (i k : ℕ) → IsOld i k → cell_in (slots_in after i) k < g.made
   old_below i k p =
       let xs = slots_in g.branches p.j in
-      subst (λ x. x < g.made) (sym p.right) (has_grown.given p.j (cell_in xs k) (cell_in-has xs k (omega (arith, p.within, lengths p.j))))
+      subst (λ x. x < g.made) (sym p.right) (built.given p.j (cell_in xs k) (cell_in-has xs k (omega (arith, p.within, lengths p.j))))
 
   -- two places with old cells have the same cell on one side exactly if they do on the other
   cells_old : (i k j m : ℕ) → IsOld i k → IsOld j m → is_one_cell before i k j m ≡ is_one_cell after i k j m
@@ -327,25 +327,25 @@ module _ (earlier : List Branch) (b : Branch) (agree : (j : ℕ) → j < length 
       (λ p. places j m P within (cells_apart i k j m p) (cells_own i k j m p))
 
   -- with b and its limb, both sides are still equal except for the numbers of cells
-  kept_more : IsRenumbered (forest_with before) (grown g l)
+  kept_more : IsRenumbered (forest_with before) (with_limb g l)
   kept_more = record { names = names_more; steps = steps_more; cells = cells_more }
 
 -- if the first branches of a forest and the forest g are equal except for the numbers of cells, so
 -- are all its branches and g with the limbs of the others added
 kept_from : (f : Forest) → IsForest f → (earlier rest : List Branch) → f.branches ≡ earlier ++ rest → (g : Forest)
-    → HasGrown (limbs_after [] earlier) g → IsRenumbered (forest_with earlier) g → IsRenumbered (forest_with f.branches) (grow g (limbs_after earlier rest))
-kept_from f h earlier [] e g has_grown kept = subst (λ bs. IsRenumbered (forest_with bs) g) (sym (append-nil earlier) ∙ sym e) kept
-kept_from f h earlier (b ∷ bs) e g has_grown kept =
+    → IsBuiltFrom (limbs_after [] earlier) g → IsRenumbered (forest_with earlier) g → IsRenumbered (forest_with f.branches) (with_limbs g (limbs_after earlier rest))
+kept_from f h earlier [] e g built kept = subst (λ bs. IsRenumbered (forest_with bs) g) (sym (append-nil earlier) ∙ sym e) kept
+kept_from f h earlier (b ∷ bs) e g built kept =
     let here : slots_in f.branches (length earlier) ≡ b.slots = ap (λ l. slots_in l (length earlier)) e ∙ slots_in-next earlier bs b in
     let agree : (j : ℕ) → j < length earlier → AreSameUpTo b.slots (slots_in earlier j) = λ j less.
     subst (λ xs. AreSameUpTo xs (slots_in earlier j)) here
     (subst (λ ys. AreSameUpTo (slots_in f.branches (length earlier)) ys) (ap (λ l. slots_in l j) e ∙ slots_in-left earlier (b ∷ bs) j less) (h.shared (length earlier) j)) in
     let once : AreSameUpTo b.slots b.slots = subst (λ xs. AreSameUpTo xs xs) here (h.shared (length earlier) (length earlier)) in
-    let next : HasGrown (limbs_after [] (earlier ++ b ∷ [])) (grown g (limb_of earlier b)) =
-    subst (λ ls. HasGrown ls (grown g (limb_of earlier b))) (sym (limbs_after-put [] earlier b))
-    (grown_more (limbs_after [] earlier) g (limb_of earlier b) has_grown (limb_may_share earlier b agree)) in
-    kept_from f h (earlier ++ b ∷ []) bs (e ∙ sym (append_assoc earlier (b ∷ []) bs)) (grown g (limb_of earlier b)) next
-    (kept_more earlier b agree once g has_grown kept)
+    let next : IsBuiltFrom (limbs_after [] (earlier ++ b ∷ [])) (with_limb g (limb_of earlier b)) =
+    subst (λ ls. IsBuiltFrom ls (with_limb g (limb_of earlier b))) (sym (limbs_after-put [] earlier b))
+    (built_from_more (limbs_after [] earlier) g (limb_of earlier b) built (limb_may_share earlier b agree)) in
+    kept_from f h (earlier ++ b ∷ []) bs (e ∙ sym (append_assoc earlier (b ∷ []) bs)) (with_limb g (limb_of earlier b)) next
+    (kept_more earlier b agree once g built kept)
 
 -- two forests with no branches are equal
 kept_none : IsRenumbered (forest_with []) no_branches
@@ -354,5 +354,5 @@ kept_none = record { names = refl; steps = λ i. refl; cells = λ i k j m inside
 -- the forest of a forest's limbs is that forest, except for the numbers of its cells
 pub limbs_kept : (f : Forest) → IsForest f → IsRenumbered f (forest_of (limbs f))
 limbs_kept f h =
-    let r = kept_from f h [] f.branches refl no_branches grown_none kept_none in
+    let r = kept_from f h [] f.branches refl no_branches built_from_none kept_none in
     record { names = r.names; steps = r.steps; cells = r.cells }

@@ -11,8 +11,8 @@ use Rattle.std.proofs.lemmas.List.Sums.{prefix_len-le-length}
 use Rattle.branch_terms.specs.declared.slot.Slot.{Slot}
 use Rattle.branch_terms.specs.Forest.{Forest, Branch, slots_in, step_of, cell_in, name_of, name_in, AreNamedApart, IsForest}
 use Rattle.branch_terms.specs.Limbs.{has_slot, holds, is_in_branches, shared_with, first_with, limb_of, limbs_after, limbs, limb_length, is_own_of, is_new_name, has_name, may_share, are_lawful_after, is_name, HaveNames, AreLawfulLimbs}
-use Rattle.branch_terms.proofs.LimbLists.{slot_cases, any_which, IsFirst, first_has}
-use Rattle.branch_terms.proofs.LimbLaws.{limbs_after-put}
+use Rattle.branch_terms.proofs.LimbLists.{has_slot_cases, any_which, IsFirst, first_has}
+use Rattle.branch_terms.proofs.LimbsAgain.{limbs_after-put}
 use Rattle.branch_terms.proofs.Lists.{by_order, cell_in_at, slice_get_some}
 
 -- two lists of cells are equal up to each cell that both have
@@ -42,7 +42,7 @@ slots_in-first (suc n) (b ∷ bs) (suc j) x h = let r = slots_in-first n bs j x 
 pub place_of_cell : (x : ℕ) (xs : List Slot) → has_slot x xs ≡ true → (b : ℕ) × (t : Slot) × (slice_get xs b ≡ Some t) × (t.cell ≡ x)
 place_of_cell x [] h = absurd (true≢false (sym h))
 place_of_cell x (s ∷ xs) h =
-    slot_cases x s xs ((b : ℕ) × (t : Slot) × (slice_get (s ∷ xs) b ≡ Some t) × (t.cell ≡ x)) h
+    has_slot_cases x s xs ((b : ℕ) × (t : Slot) × (slice_get (s ∷ xs) b ≡ Some t) × (t.cell ≡ x)) h
     (λ e. (0, s, refl, sym e)) (λ r. let p = place_of_cell x xs r in (suc p.0, p.1, p.2, p.3))
 
 module _ {X : Type 0} (test : X → Bool) where

@@ -6,6 +6,7 @@ use Rattle.std.proofs.lemmas.List.{take_all}
 use Rattle.branch_terms.specs.declared.slot.Slot.{Slot}
 use Rattle.branch_terms.specs.Forest.{cell_of, cell_in}
 
+-- a number is below another, the same, or above it
 pub by_order : (i n : ℕ) (P : Type 0) → (i < n → P) → (i ≡ n → P) → (n < i → P) → P
 by_order i n P below same above = elim (cases_order i n) [ inl e ↦ same e | inr (inl h) ↦ below h | inr (inr h) ↦ above h ]
 
@@ -21,11 +22,11 @@ pub nat_eq_symmetric : (x y : ℕ) → nat_eq x y ≡ nat_eq y x
 nat_eq_symmetric x y = nat_eq_alike x y y x (λ e. sym e) (λ e. sym e)
 
 -- two optional keys that compare equal are the same
-pub keys_from_eq : (a b : Option ℕ) → option_eq nat_eq a b ≡ true → a ≡ b
-keys_from_eq None None e = refl
-keys_from_eq None (Some k) e = cc
-keys_from_eq (Some j) None e = cc
-keys_from_eq (Some j) (Some k) e = ap Some (eqb-true j k e)
+pub option_eq-true : (a b : Option ℕ) → option_eq nat_eq a b ≡ true → a ≡ b
+option_eq-true None None e = refl
+option_eq-true None (Some k) e = cc
+option_eq-true (Some j) None e = cc
+option_eq-true (Some j) (Some k) e = ap Some (eqb-true j k e)
 
 pub slice_get_some : {X : Type 0} (xs : List X) (i : ℕ) → i < length xs → (x : X) × (slice_get xs i ≡ Some x)
 slice_get_some [] i h = absurd (omega arith)
@@ -65,12 +66,14 @@ pub item_of_rest : {X : Type 0} (all : List X) (i : ℕ) (d : X) → 0 < length 
 item_of_rest [] i d some less at = absurd (omega arith)
 item_of_rest (x ∷ all) i d some less at = rest_item x all (suc (length all) - 1) i d (omega arith) less at
 
+-- an index at the end of a list without its first item is the last of the list
 pub rest_ends : {X : Type 0} (all : List X) (i : ℕ) → 0 < length all → length (take (length all - 1) (drop 1 all)) ≤ i → length all ≤ i + 1
 rest_ends [] i some end = omega arith
 rest_ends (x ∷ all) i some end =
     let whole = take_all (suc (length all) - 1) all (omega arith) in
     let len = subst (λ l. length l ≤ i) whole end in omega arith
 
+-- `cell_in` gives the number of the cell at an index
 pub cell_in_at : (slots : List Slot) (k : ℕ) (s : Slot) → slice_get slots k ≡ Some s → cell_in slots k ≡ s.cell
 cell_in_at [] k s e = absurd (cc)
 cell_in_at (z ∷ zs) zero s e = let same : z ≡ s = cc in ap cell_of same

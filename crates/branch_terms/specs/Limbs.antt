@@ -61,13 +61,13 @@ slots_on f l = take l.shared (slots_in f.branches l.from) ++ numbered f.made l.s
 
 -- the forest after a limb's branch is added at the end of the list of branches, with the cells of
 -- `slots_on`
-abbrev pub grown : Forest → Limb → Forest
-grown f l = record { branches = f.branches ++ branch l.name (slots_on f l) ∷ []; made = f.made + length l.steps }
+abbrev pub with_limb : Forest → Limb → Forest
+with_limb f l = record { branches = f.branches ++ branch l.name (slots_on f l) ∷ []; made = f.made + length l.steps }
 
 -- the forest after the branches of several limbs are added, one after the other
-abbrev pub grow : Forest → List Limb → Forest
-grow f [] = f
-grow f (l ∷ ls) = grow (grown f l) ls
+abbrev pub with_limbs : Forest → List Limb → Forest
+with_limbs f [] = f
+with_limbs f (l ∷ ls) = with_limbs (with_limb f l) ls
 
 -- the forest without branches, in which no cell has been made yet
 abbrev pub no_branches : Forest
@@ -76,7 +76,7 @@ no_branches = record { branches = []; made = 0 }
 -- the forest that limbs describe: a branch for each limb, with the cells numbered in the order of
 -- the limbs' steps
 abbrev pub forest_of : List Limb → Forest
-forest_of ls = grow no_branches ls
+forest_of ls = with_limbs no_branches ls
 
 -- the number of all cells, shared and own, of a limb's branch
 abbrev pub limb_length : Limb → ℕ

@@ -47,16 +47,16 @@ enum Ask<'a> {
     /// A look's page has this text.
     Shows(Query, &'a [u8]),
     /// A look is refused for this reason.
-    Hides(Query, Refusal),
+    RefusesLook(Query, Refusal),
     /// Four sessions, numbered from this number on, join and move their cursors to places 0 to 3 of
     /// a branch.
     GoToFourPlaces(u32, &'a Name),
     /// The cursors of the four sessions from this number on are at these places of a branch.
     AreAt(u32, &'a Name, [u32; 4]),
     /// The log has this number of commands.
-    Logs(u32),
+    HasLogged(u32),
     /// This number of edits was accepted.
-    Counts(u64),
+    HasEdits(u64),
     /// A branch has one job, and has none after the run of that job is installed.
     Fills(&'a Name),
 }
@@ -141,7 +141,7 @@ fn shows(
 }
 
 /// Whether a look is refused for this reason.
-fn hides(alloc: Global, book: &mut Book<Safe>, query: Query, refusal: Refusal) -> bool {
+fn refuses_look(alloc: Global, book: &mut Book<Safe>, query: Query, refusal: Refusal) -> bool {
     page(alloc, book, query).err() == Some(refusal)
 }
 
@@ -247,12 +247,12 @@ fn jobs_left(alloc: Global, book: &Book<Safe>, branch: &Name) -> Result<usize, R
 }
 
 /// Whether the log has this number of commands.
-fn logs(book: &Book<Safe>, count: u32) -> bool {
+fn has_logged(book: &Book<Safe>, count: u32) -> bool {
     book.len() == count
 }
 
 /// Whether this number of edits was accepted.
-fn counts(book: &Book<Safe>, edits: u64) -> bool {
+fn has_edits(book: &Book<Safe>, edits: u64) -> bool {
     book.edits() == edits
 }
 
@@ -271,15 +271,15 @@ fn is_expected(alloc: Global, book: &mut Book<Safe>, ask: &Ask<'_>) -> Result<bo
         }
         Ask::RefusesAll(rows) => Ok(refuses_all(alloc, book, rows)),
         Ask::Shows(query, text) => shows(alloc, book, *query, text),
-        Ask::Hides(query, refusal) => Ok(hides(alloc, book, *query, *refusal)),
+        Ask::RefusesLook(query, refusal) => Ok(refuses_look(alloc, book, *query, *refusal)),
         Ask::GoToFourPlaces(first, branch) => Ok(
             *first < 16 && go_to_four_places(alloc, book, *first, branch),
         ),
         Ask::AreAt(first, branch, places) => {
             Ok(*first < 16 && are_cursors_at(alloc, book, *first, branch, places)?)
         }
-        Ask::Logs(count) => Ok(logs(book, *count)),
-        Ask::Counts(edits) => Ok(counts(book, *edits)),
+        Ask::HasLogged(count) => Ok(has_logged(book, *count)),
+        Ask::HasEdits(edits) => Ok(has_edits(book, *edits)),
         Ask::Fills(branch) => fills(alloc, book, branch),
     }
 }

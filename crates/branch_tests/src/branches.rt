@@ -7,7 +7,9 @@ ghost use Rattle.branch_terms.specs.declared.limits.TheConstants.{MOST_CELLS_MAD
 
 mod limbs;
 
-use crate::given::{Branch, Change, Edit, GO, GO_CHOICE_1, READ, make_edits, name, none_wrong};
+use crate::given::{
+    Branch, BranchEdit, Change, GO, GO_CHOICE_1, READ, make_edits, name, none_wrong,
+};
 use frames::types::Step;
 use schedule_trie::limits::Limits;
 use schedule_trie::name::Name;
@@ -25,6 +27,7 @@ fn reads(alloc: Global, count: u32) -> Result<Vec<Step>, AllocError> {
     Ok(steps)
 }
 
+/// Limits that allow this number of cells.
 fn limits(cells: u32) -> Limits
     requires { 0 < cells × cells ≤ MOST_CELLS_MADE }
     ensures { AreLimits result }
@@ -75,16 +78,17 @@ fn a_name_is_its_clone(rt: HostRuntime) {
 /// What is checked of a trie: the steps of `main`, the number of `main`'s segments, how many cells
 /// were ever made, and whether each segment in memory is one of `main`'s.
 #[derive(Drop)]
-struct Reported {
+struct Summary {
     steps: Vec<Step>,
     segments: usize,
     made: u32,
     is_alone: bool,
 }
 
-fn reported_of(alloc: Global, trie: &Trie<u32>, main: &Name) -> Result<Reported, Refusal> {
+/// The summary of a trie; `main` is the name of its first branch.
+fn summary_of(alloc: Global, trie: &Trie<u32>, main: &Name) -> Result<Summary, Refusal> {
     let (segments, is_alone) = segments_of(alloc, trie, main)?;
-    Ok(Reported {
+    Ok(Summary {
         steps: trie.path(alloc, main)?,
         segments,
         made: trie.made(),
@@ -108,25 +112,26 @@ fn holds_alone(trie: &Trie<u32>, keys: &[SegKey]) -> bool {
     true
 }
 
-/// What is checked of a trie that has these steps on `main`, after edits.
-fn reported_of_new(
+/// The summary of a trie that has these steps on `main`, after edits.
+fn summary_of_new_trie(
     rt: &impl Abort,
     alloc: Global,
     steps: &[Step],
-    edits: &[Edit],
-) -> Result<Reported, Refusal> {
+    edits: &[BranchEdit],
+) -> Result<Summary, Refusal> {
     let mut trie: Trie<u32> = Trie::new(alloc, limits(2046), steps)?;
-    reported_after(rt, alloc, &mut trie, edits)
+    summary_after(rt, alloc, &mut trie, edits)
 }
 
-fn reported_after(
+/// Makes edits of a trie, and returns its summary.
+fn summary_after(
     rt: &impl Abort,
     alloc: Global,
     trie: &mut Trie<u32>,
-    edits: &[Edit],
-) -> Result<Reported, Refusal> {
+    edits: &[BranchEdit],
+) -> Result<Summary, Refusal> {
     make_edits(rt, alloc, trie, edits)?;
-    reported_of(alloc, trie, &name(rt, b"main"))
+    summary_of(alloc, trie, &name(rt, b"main"))
 }
 
 /// Why a trie of these steps is refused if at most `cells` cells may be made; `None` if it isn't.
@@ -172,25 +177,25 @@ const CUTS: [Cut; 15] = [
     (1023, Some(Change::Detach), (8, 1023, 2046)),
 ];
 
-/// What is checked of a trie that has `count` reads on `main`, after the change, if any.
-fn reported_of_reads(
+/// The summary of a trie that has `count` reads on `main`, after the change, if any.
+fn summary_of_reads(
     rt: &impl Abort,
     alloc: Global,
     count: u32,
     change: Option<Change>,
-) -> Result<Reported, Refusal> {
+) -> Result<Summary, Refusal> {
     let steps = reads(alloc, count).expect(rt, "memory");
     match change {
-        Some(change) => reported_of_new(rt, alloc, &steps, &[(Branch::Main, change)]),
-        None => reported_of_new(rt, alloc, &steps, &[]),
+        Some(change) => summary_of_new_trie(rt, alloc, &steps, &[(Branch::Main, change)]),
+        None => summary_of_new_trie(rt, alloc, &steps, &[]),
     }
 }
 
 /// The index of the first row with wrong numbers.
 fn first_wrong(rt: &impl Abort, alloc: Global) -> Result<Option<usize>, Refusal> {
     for (i, (count, change, expected)) in CUTS.iter().enumerate() {
-        let reported = reported_of_reads(rt, alloc, *count, *change)?;
-        if (reported.segments, reported.steps.len(), reported.made) != *expected {
+        let summary = summary_of_reads(rt, alloc, *count, *change)?;
+        if (summary.segments, summary.steps.len(), summary.made) != *expected {
             return Ok(Some(i));
         }
     }
@@ -204,7 +209,7 @@ fn cuts(rt: HostRuntime) {
 
 /// `a` is forked from both cells of `main`, and detached; then the last cell of `main` gets another
 /// step.
-const DETACH_REPLACE: [Edit; 3] = [
+const DETACH_REPLACE: [BranchEdit; 3] = [
     (Branch::Main, Change::Fork(2, Branch::A)),
     (Branch::A, Change::Detach),
     (Branch::Main, Change::Replace(1, GO_CHOICE_1)),
@@ -212,9 +217,9 @@ const DETACH_REPLACE: [Edit; 3] = [
 
 /// Whether `main` has the new step after `DETACH_REPLACE`, and one or two segments.
 fn has_the_new_step(rt: &impl Abort, alloc: Global) -> Result<bool, Refusal> {
-    let reported = reported_of_new(rt, alloc, &[READ, GO], &DETACH_REPLACE)?;
+    let summary = summary_of_new_trie(rt, alloc, &[READ, GO], &DETACH_REPLACE)?;
     let steps: &[Step] = &[READ, GO_CHOICE_1];
-    Ok(reported.steps.as_slice() == steps && (reported.segments == 1 || reported.segments == 2))
+    Ok(summary.steps.as_slice() == steps && (summary.segments == 1 || summary.segments == 2))
 }
 
 #[test]
@@ -246,7 +251,7 @@ impl Order {
 
 /// Edits of a trie that has 1,023 cells on `main`. They fork 1,023 branches, each one cell later
 /// than the one before, and give each a cell of its own; then they drop all of them in this order.
-fn branches_and_drops(alloc: Global, order: Order) -> Result<Vec<Edit>, AllocError> {
+fn branches_and_drops(alloc: Global, order: Order) -> Result<Vec<BranchEdit>, AllocError> {
     let mut edits = Vec::new(alloc);
     for number in 0..1023 {
         let branch = Branch::Other(number);
@@ -264,7 +269,7 @@ fn branches_and_drops(alloc: Global, order: Order) -> Result<Vec<Edit>, AllocErr
 fn leaves_nothing(rt: &impl Abort, alloc: Global, order: Order) -> Result<bool, Refusal> {
     let steps = reads(alloc, 1023).expect(rt, "memory");
     let edits = branches_and_drops(alloc, order).expect(rt, "memory");
-    Ok(reported_of_new(rt, alloc, &steps, &edits)?.is_alone)
+    Ok(summary_of_new_trie(rt, alloc, &steps, &edits)?.is_alone)
 }
 
 /// The index of the first of three orders of drops after which a segment is left that isn't

@@ -7,3 +7,4 @@ mod late;
 mod lenses;
 mod rows;
 pub(crate) mod single;
+mod steps;

@@ -16,6 +16,7 @@ pub(crate) const GO: Step = Step::Go { p: 1, c: 0 };
 /// The next bit action of process 1, with choice 1.
 pub(crate) const GO_CHOICE_1: Step = Step::Go { p: 1, c: 1 };
 
+/// The name with this text, which must have at most 16 bytes.
 pub(crate) fn name(rt: &impl Abort, text: &[u8]) -> Name {
     Name::new(text).expect(rt, "a short name")
 }
@@ -29,6 +30,7 @@ pub(crate) enum Branch {
     Other(u32),
 }
 
+/// The name of a branch.
 pub(crate) fn name_of(rt: &impl Abort, alloc: Global, branch: Branch) -> Name {
     match branch {
         Branch::Main => name(rt, b"main"),
@@ -56,14 +58,14 @@ pub(crate) enum Change {
 }
 
 /// A branch, and a change of it.
-pub(crate) type Edit = (Branch, Change);
+pub(crate) type BranchEdit = (Branch, Change);
 
 /// Makes an edit.
 fn make_edit(
     rt: &impl Abort,
     alloc: Global,
     trie: &mut Trie<u32>,
-    edit: Edit,
+    edit: BranchEdit,
 ) -> Result<(), Refusal> {
     let (branch, change) = edit;
     let branch = name_of(rt, alloc, branch);
@@ -81,7 +83,7 @@ pub(crate) fn make_edits(
     rt: &impl Abort,
     alloc: Global,
     trie: &mut Trie<u32>,
-    edits: &[Edit],
+    edits: &[BranchEdit],
 ) -> Result<(), Refusal> {
     for edit in edits {
         make_edit(rt, alloc, trie, *edit)?;

@@ -8,7 +8,8 @@ use Rattle.breadth_first.specs.declared.mark.Mark.{Mark}
 use Rattle.breadth_first.specs.Paths.{mark_of_start, depth_at, Moves, Reaches, IsMade, IsTrail, LeadsBy, IsFound, IsExpanding, AreTooMany}
 use Rattle.breadth_first.specs.Searches.{IsWholeSearch}
 use Rattle.breadth_first.specs.Shape.{Shape}
-use Rattle.breadth_first.proofs.Expanded.{all_reached, expanding_first}
+use Rattle.breadth_first.proofs.Reachable.{all_reached}
+use Rattle.breadth_first.proofs.Started.{expanding_first}
 
 -- a graph whose one label leads from 0 to 1, and nowhere from any other node
 abbrev move : ℕ → ℕ → Option ℕ

@@ -1,12 +1,35 @@
 -- The moves from one node are followed, one label after another.
-use Rattle.std.proofs.Common.{◌≡◌, ℕ, ◌+◌, ◌<◌, ◌≤◌, inl, inr, List, Some, slice_get, Bool, ap, sym, subst, ◌∙◌, arith}
+use Rattle.std.proofs.Common.{◌≡◌, ℕ, ◌+◌, ◌<◌, ◌≤◌, inl, inr, List, Some, slice_get, Bool, ap, sym, subst, ◌∙◌, arith, Option, length}
 use Rattle.std.proofs.lemmas.Bool.{cases_lt}
-use Rattle.std.proofs.lemmas.Option.{same_Some, slice_get_within}
+use Rattle.std.proofs.lemmas.Option.{same_Some, slice_get_within, slice_get_cases}
 use Rattle.breadth_first.specs.declared.mark.Mark.{Mark}
 use Rattle.breadth_first.specs.Shape.{Shape}
-use Rattle.breadth_first.specs.Paths.{depth_at, Moves, IsFound, IsExpanding}
+use Rattle.breadth_first.specs.Paths.{depth_at, Moves, IsFound, IsExpanding, IsFollowed}
 use Rattle.breadth_first.specs.Searches.{IsSearching, IsSearch, IsSearchAt, IsSearchAfter}
-use Rattle.breadth_first.proofs.Followed.{discovered_more}
+
+-- if each item of xs is still in ys, at its index, then what ys has at an index of xs, xs has there
+pub grown_same : {X : Type 0} (xs ys : List X) (at : ℕ) (x : X) → ((i : ℕ) (x : X) → slice_get xs i ≡ Some x → slice_get ys i ≡ Some x)
+    → at < length xs → slice_get ys at ≡ Some x → slice_get xs at ≡ Some x
+grown_same xs ys at x grown lt h = elim ((slice_get_cases xs at).1) [
+  | inl a ↦ a.2 ∙ (sym (grown at a.0 a.2) ∙ h)
+  | inr b ↦ absurd (omega (arith, lt, b.0))
+]
+
+module _ {N : Type 0} (labels : ℕ) (move : N → ℕ → Option N) (eq : N → N → Bool) (nodes new_nodes : List N) (marks new_marks : List Mark) (at l : ℕ)
+    (f : IsFollowed labels move eq nodes marks new_nodes new_marks at l) where
+  -- if what the labels below l lead to was found, what those up to l lead to is found
+  pub discovered_more : at < length nodes
+      → ((x y : N) (i : ℕ) → i < l → slice_get nodes at ≡ Some x → move x i ≡ Some y → IsFound labels move eq nodes marks y (depth_at marks at + 1))
+      → (x y : N) (i : ℕ) → i < l + 1 → slice_get new_nodes at ≡ Some x → move x i ≡ Some y → IsFound labels move eq new_nodes new_marks y (depth_at new_marks at + 1)
+  discovered_more here discovered x y i lt h mv =
+      let old : slice_get nodes at ≡ Some x = grown_same nodes new_nodes at x f.grown here h in
+      subst (IsFound labels move eq new_nodes new_marks y) (ap (λ d. d + 1) (sym f.depth)) (elim (cases_lt i l) [
+        | inl low ↦ f.kept y (depth_at marks at + 1) (discovered x y i low old mv)
+        | inr high ↦ last i (omega (arith, lt, high)) x y old mv
+      ])
+    where
+      last : (i : ℕ) → i ≡ l → (x y : N) → slice_get nodes at ≡ Some x → move x i ≡ Some y → IsFound labels move eq new_nodes new_marks y (depth_at marks at + 1)
+      last i e x y old mv = f.discovered x y old (sym (ap (move x) e) ∙ mv)
 
 module _ {N K : Type 0} (g : Shape N K) (eq : N → N → Bool) (Holds : N → Type 0) (x : N) (at : ℕ) where
   -- the moves from x, which is at index `at`, are followed by the labels below l
@@ -17,18 +40,21 @@ module _ {N K : Type 0} (g : Shape N K) (eq : N → N → Bool) (Holds : N → T
     pub discovered : (y : N) (i : ℕ) → i < l → g.move x i ≡ Some y → IsFound g.labels g.move eq nodes marks y (depth_at marks at + 1)
 
   module _ (keys : List K) (goals : List Bool) (marks : List Mark) (queue : List N) where
-    pub labels_none : IsSearchAt g eq Holds x keys goals marks queue at → IsExpandingLabels keys goals marks queue 0
-    labels_none s = record { nodes = s.nodes; here = s.here; searching = s.searching; discovered = λ y i lt. absurd (omega (arith, lt)) }
+    -- at first no label is followed
+    pub no_label_followed : IsSearchAt g eq Holds x keys goals marks queue at → IsExpandingLabels keys goals marks queue 0
+    no_label_followed s = record { nodes = s.nodes; here = s.here; searching = s.searching; discovered = λ y i lt. absurd (omega (arith, lt)) }
 
     module _ (l : ℕ) (s : IsExpandingLabels keys goals marks queue l) where
-      pub labels_at : IsSearchAt g eq Holds x keys goals marks queue at
-      labels_at = record { nodes = s.nodes; here = s.here; searching = s.searching }
+      -- a search whose node x is being expanded
+      pub search_at : IsSearchAt g eq Holds x keys goals marks queue at
+      search_at = record { nodes = s.nodes; here = s.here; searching = s.searching }
 
-      pub labels_more : (new_keys : List K) (new_goals : List Bool) (new_marks : List Mark) (new_queue : List N)
+      -- the move by label l is followed
+      pub label_followed : (new_keys : List K) (new_goals : List Bool) (new_marks : List Mark) (new_queue : List N)
           → ((nodes : List N) → slice_get nodes at ≡ Some x → IsSearching g eq Holds nodes keys goals marks queue (at + 1) at
           → IsSearchAfter g eq Holds nodes marks new_keys new_goals new_marks new_queue at l)
           → IsExpandingLabels new_keys new_goals new_marks new_queue (l + 1)
-      labels_more new_keys new_goals new_marks new_queue step =
+      label_followed new_keys new_goals new_marks new_queue step =
           let t = step s.nodes s.here s.searching in
           let f = t.followed in
           let old : (z y : N) (i : ℕ) → i < l → slice_get s.nodes at ≡ Some z → g.move z i ≡ Some y → IsFound g.labels g.move eq s.nodes marks y (depth_at marks at + 1)
@@ -42,8 +68,8 @@ module _ {N K : Type 0} (g : Shape N K) (eq : N → N → Bool) (Holds : N → T
           }
 
       -- a label whose move from x is that of an earlier label needn't be followed
-      pub labels_again : (j : ℕ) → j < l → g.move x l ≡ g.move x j → IsExpandingLabels keys goals marks queue (l + 1)
-      labels_again j lt same = record {
+      pub label_skipped : (j : ℕ) → j < l → g.move x l ≡ g.move x j → IsExpandingLabels keys goals marks queue (l + 1)
+      label_skipped j lt same = record {
         nodes = s.nodes;
         here = s.here;
         searching = s.searching;
@@ -53,9 +79,9 @@ module _ {N K : Type 0} (g : Shape N K) (eq : N → N → Bool) (Holds : N → T
         ];
       }
 
-      -- all labels are followed
-      pub labels_all : g.labels ≤ l → IsSearch g eq Holds keys goals marks queue (at + 1) (at + 1)
-      labels_all all = record {
+      -- all labels are followed: node x is expanded
+      pub all_labels_followed : g.labels ≤ l → IsSearch g eq Holds keys goals marks queue (at + 1) (at + 1)
+      all_labels_followed all = record {
         nodes = s.nodes;
         searching = record {
           expanding = record {

@@ -1,7 +1,7 @@
-pub mod Pushed
-pub mod Expanded
-pub mod Followed
+pub mod Items
+pub mod Discovered
 pub mod Started
+pub mod Reachable
 pub mod Searched
 pub mod Expanding
 pub mod Traced

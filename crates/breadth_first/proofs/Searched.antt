@@ -8,9 +8,10 @@ use Rattle.breadth_first.specs.declared.mark.Mark.{Mark}
 use Rattle.breadth_first.specs.Shape.{Shape}
 use Rattle.breadth_first.specs.Paths.{mark_of_start, depth_at, AreTooMany}
 use Rattle.breadth_first.specs.Searches.{IsOldNode, IsNewNode, AreKeysOf, IsSearching, IsSearch, IsSearchAt, IsSearchAfter, IsWholeSearch}
-use Rattle.breadth_first.proofs.Pushed.{old_or_new}
-use Rattle.breadth_first.proofs.Expanded.{all_reached, followed_old, followed_new, too_many}
-use Rattle.breadth_first.proofs.Started.{HasBegun, has_begun, not_too_many}
+use Rattle.breadth_first.proofs.Items.{old_or_new}
+use Rattle.breadth_first.proofs.Discovered.{followed_old, followed_new}
+use Rattle.breadth_first.proofs.Reachable.{all_reached, too_many, not_too_many}
+use Rattle.breadth_first.proofs.Started.{HasBegun, has_begun}
 
 -- the first of the items from index n on
 head_of_drop : {X : Type 0} (xs : List X) (n : ℕ) (x : X) (rest : List X) → drop n xs ≡ x ∷ rest → (slice_get xs n ≡ Some x) × (rest ≡ drop (suc n) xs)
@@ -31,17 +32,20 @@ module _ {N K : Type 0} (g : Shape N K) (eq : N → N → Bool) (eq_key : K → 
   any_key same y [] h all = refl
   any_key same y (x ∷ nodes) h all = λ i. same y x h (all 0 x refl) i || any_key same y nodes h (λ j z e. all (suc j) z e) i
 
-  pub kept_more : (nodes : List N) (y : N) (keys new_keys : List K) (goals new_goals : List Bool) → AreKeysOf g eq Holds nodes keys goals → Holds y
+  -- with one more node, its key and whether it is a goal
+  pub keys_of_more : (nodes : List N) (y : N) (keys new_keys : List K) (goals new_goals : List Bool) → AreKeysOf g eq Holds nodes keys goals → Holds y
       → new_keys ≡ keys ++ g.key y ∷ [] → new_goals ≡ goals ++ g.is_goal y ∷ [] → AreKeysOf g eq Holds (nodes ++ y ∷ []) new_keys new_goals
-  kept_more nodes y keys new_keys goals new_goals k h by_key by_goal = record {
+  keys_of_more nodes y keys new_keys goals new_goals k h by_key by_goal = record {
     by_key = by_key ∙ (ap (λ ks. ks ++ g.key y ∷ []) k.by_key ∙ sym (map-append g.key nodes (y ∷ [])));
     by_goal = by_goal ∙ (ap (λ gs. gs ++ g.is_goal y ∷ []) k.by_goal ∙ sym (map-append g.is_goal nodes (y ∷ [])));
     hold = λ i x s. elim (old_or_new nodes y i x s) [ inl p ↦ k.hold i x p | inr q ↦ subst Holds (sym q.1) h ];
   }
 
-  pub kept_none : AreKeysOf g eq Holds [] [] []
-  kept_none = record { by_key = refl; by_goal = refl; hold = λ i x s. absurd (none-some x s) }
+  -- no nodes have no keys
+  pub keys_of_none : AreKeysOf g eq Holds [] [] []
+  keys_of_none = record { by_key = refl; by_goal = refl; hold = λ i x s. absurd (none-some x s) }
 
+  -- there are as many keys as nodes
   pub as_many_keys : (nodes : List N) (keys : List K) (goals : List Bool) → AreKeysOf g eq Holds nodes keys goals → length keys ≡ length nodes
   as_many_keys nodes keys goals k = ap length k.by_key ∙ length-map nodes g.key
 
@@ -63,13 +67,14 @@ module _ {N K : Type 0} (g : Shape N K) (eq : N → N → Bool) (eq_key : K → 
         record {
           expanding = b.expanding;
           first = ap Some e;
-          kept = kept_more [] start [] keys [] goals kept_none h (t.keys_grow ∙ ap (λ (k : List K). k ++ g.key start ∷ []) nk) (t.goals_grow ∙ ap (λ (k : List Bool). k ++ g.is_goal start ∷ []) ng);
+          kept = keys_of_more [] start [] keys [] goals keys_of_none h (t.keys_grow ∙ ap (λ (k : List K). k ++ g.key start ∷ []) nk) (t.goals_grow ∙ ap (λ (k : List Bool). k ++ g.is_goal start ∷ []) ng);
           waiting = t.queue_grows ∙ ap (λ (q : List N). q ++ start ∷ []) nq;
         },
         omega (arith, none, one, room),
       )
 
   module _ (nodes : List N) (keys : List K) (goals : List Bool) (marks : List Mark) (queue : List N) (at : ℕ) (s : IsSearching g eq Holds nodes keys goals marks queue (at + 1) at) where
+    -- the move by label l, to y, is followed: y was noted already, or is noted now
     pub search_after : (same : (x y : N) → Holds x → Holds y → eq_key (g.key x) (g.key y) ≡ eq x y) (laws : IsEquivalence eq)
         (alike : (x y : N) → eq x y ≡ true → (l : ℕ) (z : N) → g.move x l ≡ Some z → (w : N) × ((g.move y l ≡ Some w) × (eq z w ≡ true)))
         (x y : N) (l d most : ℕ) → Holds y → slice_get nodes at ≡ Some x → l < g.labels → g.move x l ≡ Some y → d ≡ depth_at marks at + 1
@@ -95,7 +100,7 @@ module _ {N K : Type 0} (g : Shape N K) (eq : N → N → Bool) (eq_key : K → 
           searching = record {
             expanding = f.expanding;
             first = f.grown 0 g.origin s.first;
-            kept = kept_more nodes y keys new_keys goals new_goals s.kept h t.keys_grow t.goals_grow;
+            kept = keys_of_more nodes y keys new_keys goals new_goals s.kept h t.keys_grow t.goals_grow;
             waiting = t.queue_grows ∙ (ap (λ (q : List N). q ++ y ∷ []) s.waiting ∙ sym (drop-append-le (at + 1) nodes (y ∷ []) (omega (arith, low))));
           };
           followed = f;
@@ -127,6 +132,7 @@ module _ {N K : Type 0} (g : Shape N K) (eq : N → N → Bool) (eq_key : K → 
           };
         }
 
+    -- once all nodes are expanded, all is found
     searched_all : (laws : IsEquivalence eq)
         (alike : (x y : N) → eq x y ≡ true → (l : ℕ) (z : N) → g.move x l ≡ Some z → (w : N) × ((g.move y l ≡ Some w) × (eq z w ≡ true)))
         → length s.nodes ≤ at → IsWholeSearch g eq Holds keys goals marks
@@ -137,20 +143,21 @@ module _ {N K : Type 0} (g : Shape N K) (eq : N → N → Bool) (eq_key : K → 
     }
 
     -- once the queue is empty, all is found
-    pub searched_empty : (laws : IsEquivalence eq)
+    pub found_all_if_queue_is_empty : (laws : IsEquivalence eq)
         (alike : (x y : N) → eq x y ≡ true → (l : ℕ) (z : N) → g.move x l ≡ Some z → (w : N) × ((g.move y l ≡ Some w) × (eq z w ≡ true)))
         → queue ≡ drop 1 queue → IsWholeSearch g eq Holds keys goals marks
-    searched_empty laws alike e =
+    found_all_if_queue_is_empty laws alike e =
         let none : length queue ≡ 0 = empty_if_rest_same queue e in
         let left : length queue ≡ length s.nodes - at = ap length s.searching.waiting ∙ length-drop at s.nodes in
         searched_all laws alike (omega (arith, none, left))
 
     -- once as many nodes are expanded as there are keys, all is found
-    pub searched_full : (laws : IsEquivalence eq)
+    pub found_all_if_all_are_expanded : (laws : IsEquivalence eq)
         (alike : (x y : N) → eq x y ≡ true → (l : ℕ) (z : N) → g.move x l ≡ Some z → (w : N) × ((g.move y l ≡ Some w) × (eq z w ≡ true)))
         → length keys ≤ at → IsWholeSearch g eq Holds keys goals marks
-    searched_full laws alike few = let many = as_many_keys s.nodes keys goals s.searching.kept in searched_all laws alike (omega (arith, few, many))
+    found_all_if_all_are_expanded laws alike few = let many = as_many_keys s.nodes keys goals s.searching.kept in searched_all laws alike (omega (arith, few, many))
 
+  -- if all is found, in at most `most` keys, no more than `most` nodes are reachable
   pub not_too_many_keys : (laws : IsEquivalence eq)
       (alike : (x y : N) → eq x y ≡ true → (l : ℕ) (z : N) → g.move x l ≡ Some z → (w : N) × ((g.move y l ≡ Some w) × (eq z w ≡ true)))
       (keys : List K) (goals : List Bool) (marks : List Mark) (most : ℕ) → IsWholeSearch g eq Holds keys goals marks → length keys ≤ most → AreTooMany g.labels g.move eq g.origin most → ⊥

@@ -29,7 +29,7 @@ pub trait Graph {
     ghost Holds: { Self → Self.Node → Type 0 };
 
     /// The number of labels. The labels are 0 to one less than this number.
-    fn count(&self) -> usize
+    fn label_count(&self) -> usize
         ensures { result ≡ (shape self.now).labels };
 
     /// The node to which the label leads from this node, if any; says also whether the next label

@@ -241,7 +241,7 @@ fn expand<G: Graph>(
         (G.shape graph.now).move G.Node.eq (G.shape graph.now).origin most }
 {
     let mut again = false;
-    for label in 0..graph.count() {
+    for label in 0..graph.label_count() {
         if again {
             again = false;
             continue;

@@ -4,7 +4,7 @@ use Rattle.frames.specs.declared.types.Event.{Event}
 use Rattle.frames.specs.declared.types.Step.{Step}
 use Rattle.frames.specs.declared.types.StepEvents.{StepEvents}
 use Rattle.checkpoints.specs.declared.mark.Mark.{Mark}
-use Rattle.checkpoints.specs.Reports.{events_with, left_after, reported_events, ReportsOne, IsStepAdded}
+use Rattle.checkpoints.specs.MarkedSteps.{events_with, left_after, reported_events, ReportsOne, IsStepAdded}
 
 -- whatever steps, marks and events follow, these steps have the events that `marks` and `events`
 -- give, and the steps that follow have those that theirs give

@@ -37,8 +37,8 @@ none_left step_in items i past = ap (map step_in) (drop_of_length-le items past)
 
 -- the steps that are left are `step`, then `rest`
 module _ (step : Step) (left rest : List Step) (first : left ≡ step ∷ rest) where
-  pub step_fits : {P : Type 0} (b : Behaviour P) → AllFit b left → fits_step b step ≡ true
-  step_fits b all = All-head (λ s. fits_step b s ≡ true) step rest (subst (AllFit b) first all)
+  pub first_fits : {P : Type 0} (b : Behaviour P) → AllFit b left → fits_step b step ≡ true
+  first_fits b all = All-head (λ s. fits_step b s ≡ true) step rest (subst (AllFit b) first all)
 
   pub rest_fits : {P : Type 0} (b : Behaviour P) → AllFit b left → AllFit b rest
   rest_fits b all = All-tail (λ s. fits_step b s ≡ true) step rest (subst (AllFit b) first all)

@@ -5,10 +5,10 @@ ghost use Rattle.frames.specs.Recorded.{at_index, indexed};
 ghost use Rattle.frames.specs.declared.types.Step.{Step as StepSpec};
 ghost use Rattle.checkpoints.specs.declared.mark.Mark.{Mark as MarkSpec};
 ghost use Rattle.checkpoints.specs.StoredEvents.{stored_events};
-ghost use Rattle.checkpoints.specs.Reports as spec;
+ghost use Rattle.checkpoints.specs.MarkedSteps as spec;
 
-use crate::kept::{Kept, event_of, kept_of};
-use crate::mark::{Mark, own_event, own_mark};
+use crate::mark::{Mark, implied_event, implying_mark};
+use crate::stored_event::{StoredEvent, event_of, stored_form};
 use frames::types::{Event, Step, StepEvents};
 use slices::front;
 use std::alloc::{AllocError, Global};
@@ -21,23 +21,23 @@ const MORE_EVENTS: usize = 8;
 /// step's events are stored, or what the step's only event is. The three fields together give what
 /// each step recorded.
 #[derive(Debug, Drop)]
-pub(crate) struct Reported {
+pub(crate) struct MarkedSteps {
     pub(crate) steps: Vec<Step>,
     marks: Vec<Mark>,
-    events: Vec<Kept>,
+    events: Vec<StoredEvent>,
 }
 
 /// The events of steps made one after another. Contracts see a list with an item for each step, in
 /// order: the step's events, two at most.
 #[derive(Debug, Drop)]
 pub struct Events {
-    reported: Reported,
+    reported: MarkedSteps,
 }
 
 impl Model for Events {
     ghost use Rattle.std.specs.Prelude.{List};
     ghost use Rattle.frames.specs.declared.types.StepEvents.{StepEvents};
-    ghost use Rattle.checkpoints.specs.Reports.{reported_in};
+    ghost use Rattle.checkpoints.specs.MarkedSteps.{reported_in};
 
     ghost Value = { List StepEvents };
 
@@ -50,24 +50,24 @@ impl Model for Events {
 pub struct EventWalk<'a> {
     steps: &'a [Step],
     marks: &'a [Mark],
-    events: &'a [Kept],
+    events: &'a [StoredEvent],
 }
 
 impl<'a> Model for EventWalk<'a> {
     ghost use Rattle.std.specs.Prelude.{List};
     ghost use Rattle.frames.specs.declared.types.StepEvents.{StepEvents};
     ghost use Rattle.checkpoints.specs.StoredEvents.{stored_events};
-    ghost use Rattle.checkpoints.specs.Reports.{reported_events};
+    ghost use Rattle.checkpoints.specs.MarkedSteps.{reported_events};
 
     ghost Value = { List StepEvents };
 
     ghost view = { λ w. reported_events w.steps.now w.marks.now (stored_events w.events.now) };
 }
 
-impl Reported {
+impl MarkedSteps {
     /// Steps with these marks and stored events. If memory is reserved for more than `MORE_EVENTS`
     /// further events, frees that memory.
-    pub(crate) fn new(steps: Vec<Step>, marks: Vec<Mark>, events: Vec<Kept>) -> Reported
+    pub(crate) fn new(steps: Vec<Step>, marks: Vec<Mark>, events: Vec<StoredEvent>) -> MarkedSteps
         ensures steps { result.steps.items ≡ steps.items }
         ensures reported { spec.reported_in result
             ≡ spec.reported_events steps.items marks.items (stored_events events.items) }
@@ -76,7 +76,7 @@ impl Reported {
         if events.capacity() - events.len() > MORE_EVENTS {
             events.shrink_to_fit();
         }
-        Reported {
+        MarkedSteps {
             steps,
             marks,
             events,
@@ -97,7 +97,7 @@ impl Reported {
 
 impl Events {
     /// The events of the steps of `reported`.
-    pub(crate) fn of(reported: Reported) -> Events
+    pub(crate) fn of(reported: MarkedSteps) -> Events
         ensures { result ≡ spec.reported_in reported }
     {
         Events { reported }
@@ -149,7 +149,7 @@ impl EventWalk<'_> {
     {
         let (step, steps) = self.steps.split_first()?;
         let (mark, marks) = self.marks.split_first()?;
-        let (reported, events) = split(*step, *mark, self.events);
+        let (reported, events) = split_events(*step, *mark, self.events);
         self.steps = steps;
         self.marks = marks;
         self.events = events;
@@ -189,7 +189,7 @@ impl EventWalk<'_> {
 #[inline(always)]
 pub(crate) fn push_reported(
     marks: &mut Vec<Mark>,
-    events: &mut Vec<Kept>,
+    events: &mut Vec<StoredEvent>,
     step: Step,
     reported: StepEvents,
 ) -> Result<(), AllocError>
@@ -202,21 +202,21 @@ pub(crate) fn push_reported(
     let mark = match reported.first {
         Some(first) => match reported.second {
             Some(second) => {
-                push_kept(events, first)?;
-                push_kept(events, second)?;
+                push_stored(events, first)?;
+                push_stored(events, second)?;
                 Mark::Both
             }
-            None => match own_mark(step, first) {
+            None => match implying_mark(step, first) {
                 Some(mark) => mark,
                 None => {
-                    push_kept(events, first)?;
+                    push_stored(events, first)?;
                     Mark::First
                 }
             },
         },
         None => match reported.second {
             Some(second) => {
-                push_kept(events, second)?;
+                push_stored(events, second)?;
                 Mark::Second
             }
             None => Mark::Nothing,
@@ -228,21 +228,21 @@ pub(crate) fn push_reported(
 
 /// Adds an event in its stored form.
 #[inline(always)]
-fn push_kept(events: &mut Vec<Kept>, event: Event) -> Result<(), AllocError>
+fn push_stored(events: &mut Vec<StoredEvent>, event: Event) -> Result<(), AllocError>
     ensures { OnOk result
         (stored_events events.new.items ≡ stored_events events.old.items ++ event ∷ []) }
 {
     if events.len() == events.capacity() {
-        take_room(events)?;
+        reserve_more(events)?;
     }
-    events.push_reserved(kept_of(event));
+    events.push_reserved(stored_form(event));
     Ok(())
 }
 
 /// Reserves memory for `MORE_EVENTS` more events.
 #[cold]
 #[inline(never)]
-fn take_room(events: &mut Vec<Kept>) -> Result<(), AllocError>
+fn reserve_more(events: &mut Vec<StoredEvent>) -> Result<(), AllocError>
     ensures items { events.new.items ≡ events.old.items }
     ensures room { OnOk result (vec_len events.new < vec_capacity events.new) }
 {
@@ -251,7 +251,7 @@ fn take_room(events: &mut Vec<Kept>) -> Result<(), AllocError>
 
 /// The events of a step with this mark, and the stored events that are left for later steps.
 #[inline(always)]
-fn split(step: Step, mark: Mark, events: &[Kept]) -> (StepEvents, &[Kept])
+fn split_events(step: Step, mark: Mark, events: &[StoredEvent]) -> (StepEvents, &[StoredEvent])
     ensures { (steps : List StepSpec) (marks : List MarkSpec)
         → spec.reported_events (step ∷ steps) (mark ∷ marks) (stored_events events.now)
         ≡ result.0 ∷ spec.reported_events steps marks (stored_events result.1.now) }
@@ -270,18 +270,18 @@ fn split(step: Step, mark: Mark, events: &[Kept]) -> (StepEvents, &[Kept])
             let (second, following) = take_next(later);
             (step_events_of(first, second), following)
         }
-        mark => (step_events_of(own_event(step, mark), None), events),
+        mark => (step_events_of(implied_event(step, mark), None), events),
     }
 }
 
 /// The next event, if one is left, and the events after it.
 #[inline(always)]
-fn take_next(events: &[Kept]) -> (Option<Event>, &[Kept])
+fn take_next(events: &[StoredEvent]) -> (Option<Event>, &[StoredEvent])
     ensures next { result.0 ≡ spec.next_event (stored_events events.now) }
     ensures following { stored_events result.1.now ≡ spec.later_events (stored_events events.now) }
 {
     match events.split_first() {
-        Some((kept, following)) => (Some(event_of(*kept)), following),
+        Some((stored, following)) => (Some(event_of(*stored)), following),
         None => (None, events),
     }
 }

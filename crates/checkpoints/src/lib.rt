@@ -3,10 +3,10 @@
 #![tactic(auto)]
 
 pub mod events;
-mod kept;
 mod mark;
 mod replaying;
 pub mod run;
+mod stored_event;
 
 pub use events::{EventWalk, Events};
 pub use replaying::{Replayed, replay};

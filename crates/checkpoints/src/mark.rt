@@ -4,7 +4,7 @@ ghost use Rattle.std.specs.Prelude.{◌≡◌, Some, IfSome};
 ghost use Rattle.frames.specs.Steps.{process_of};
 ghost use Rattle.frames.specs.declared.types.Event.TheVariants as event;
 ghost use Rattle.frames.specs.declared.types.Step.{Step as StepSpec};
-ghost use Rattle.checkpoints.specs.Reports as spec;
+ghost use Rattle.checkpoints.specs.MarkedSteps as spec;
 
 use frames::types::{Event, Op, Reason, Step};
 
@@ -28,8 +28,8 @@ pub(crate) enum Mark {
 
 /// The event that a step and its mark determine, if they determine one.
 #[inline(always)]
-pub(crate) fn own_event(step: Step, mark: Mark) -> Option<Event>
-    ensures { result ≡ spec.own_event step mark }
+pub(crate) fn implied_event(step: Step, mark: Mark) -> Option<Event>
+    ensures { result ≡ spec.implied_event step mark }
 {
     match mark {
         Mark::Nothing | Mark::First | Mark::Second | Mark::Both => None,
@@ -58,8 +58,8 @@ fn invocation(step: Step) -> Option<Event>
 /// The mark that, together with `step`, determines `event` as the step's only event; `None` if no
 /// mark does.
 #[inline(always)]
-pub(crate) fn own_mark(step: Step, event: Event) -> Option<Mark>
-    ensures { IfSome result (λ mark. spec.own_event step mark ≡ Some event) }
+pub(crate) fn implying_mark(step: Step, event: Event) -> Option<Mark>
+    ensures { IfSome result (λ mark. spec.implied_event step mark ≡ Some event) }
 {
     match event {
         Event::Invoke(..) if invocation(step) == Some(event) => Some(Mark::Invoked),
@@ -74,7 +74,7 @@ pub(crate) fn own_mark(step: Step, event: Event) -> Option<Mark>
 /// The mark of a step that isn't enabled, for this reason.
 #[inline(always)]
 fn mark_of(reason: Reason) -> Mark
-    ensures { (step : StepSpec) → spec.own_event step result
+    ensures { (step : StepSpec) → spec.implied_event step result
         ≡ Some (event.Void (process_of step) reason) }
 {
     match reason {

@@ -3,9 +3,9 @@
 ghost use Rattle.std.specs.Prelude.{◌≡◌, ◌<◌, IfOk, map};
 ghost use Rattle.frames.specs.Configuration.{initial_configuration, replayed, history};
 ghost use Rattle.frames.specs.Recorded.{AllFit};
-ghost use Rattle.checkpoints.specs.Reports.{reported_in};
+ghost use Rattle.checkpoints.specs.MarkedSteps.{reported_in};
 
-use crate::events::{Events, Reported, push_reported};
+use crate::events::{Events, MarkedSteps, push_reported};
 use frames::config::Config;
 use frames::register::Register;
 use frames::types::{HasStep, Step};
@@ -20,12 +20,12 @@ pub struct Replayed<R: Register> {
 
 /// Steps made one after another, with what each recorded, and the configuration after them.
 #[derive(Drop)]
-pub(crate) struct Made<R: Register> {
-    pub(crate) reported: Reported,
+pub(crate) struct MarkedReplay<R: Register> {
+    pub(crate) reported: MarkedSteps,
     pub(crate) config: Config<R>,
 }
 
-impl<R: Register> Made<R> {
+impl<R: Register> MarkedReplay<R> {
     /// The configuration and the events, as the result of a replay.
     fn into_replayed(self) -> Replayed<R>
         ensures config { result.config ≡ self.config }
@@ -66,7 +66,7 @@ pub(crate) fn replay_from<R: Register, S: HasStep>(
     alloc: Global,
     entry: Config<R>,
     items: &[S],
-) -> Result<Made<R>, AllocError>
+) -> Result<MarkedReplay<R>, AllocError>
     requires { AllFit (R.behaviour entry.register) (map S.step_in items.now) }
     ensures steps { IfOk result (λ r. r.reported.steps.items ≡ map S.step_in items.now) }
     ensures config { IfOk result
@@ -85,17 +85,17 @@ pub(crate) fn replay_from<R: Register, S: HasStep>(
         steps.push_reserved(step);
         push_reported(&mut marks, &mut events, step, reported)?;
     }
-    let reported = Reported::new(steps, marks, events);
-    Ok(Made { reported, config })
+    let reported = MarkedSteps::new(steps, marks, events);
+    Ok(MarkedReplay { reported, config })
 }
 
 /// Makes `steps`, in order, from `entry`, whose register they must fit. Returns the steps, which
 /// aren't copied, what each recorded, and the configuration after them.
-pub(crate) fn replay_all<R: Register>(
+pub(crate) fn replay_owned<R: Register>(
     alloc: Global,
     entry: Config<R>,
     steps: Vec<Step>,
-) -> Result<Made<R>, AllocError>
+) -> Result<MarkedReplay<R>, AllocError>
     requires { AllFit (R.behaviour entry.register) steps.items }
     ensures steps { IfOk result (λ r. r.reported.steps.items ≡ steps.items) }
     ensures config { IfOk result
@@ -111,8 +111,8 @@ pub(crate) fn replay_all<R: Register>(
         let recorded = config.step(step);
         push_reported(&mut marks, &mut events, step, recorded)?;
     }
-    Ok(Made {
-        reported: Reported::new(steps, marks, events),
+    Ok(MarkedReplay {
+        reported: MarkedSteps::new(steps, marks, events),
         config,
     })
 }

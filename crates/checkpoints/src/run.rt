@@ -5,8 +5,8 @@ ghost use Rattle.std.specs.Arc.{arc_value};
 ghost use Rattle.checkpoints.specs.Segment.{IsRun};
 ghost use Rattle.frames.specs.Recorded.{AllFit};
 
-use crate::events::{EventWalk, Reported};
-use crate::replaying::{Made, replay_all, replay_from};
+use crate::events::{EventWalk, MarkedSteps};
+use crate::replaying::{MarkedReplay, replay_from, replay_owned};
 use frames::config::Config;
 use frames::register::Register;
 use frames::types::{HasStep, Step};
@@ -21,14 +21,14 @@ use std::sync::Arc;
 #[derive(Drop)]
 pub struct Run<R: Register> {
     entry: Arc<Config<R>>,
-    reported: Reported,
+    reported: MarkedSteps,
     exit: Arc<Config<R>>,
 }
 
 impl<R: Register> Model for Run<R> {
     ghost use Rattle.std.specs.Arc.{arc_value};
     ghost use Rattle.checkpoints.specs.Segment.{SegmentRun, IsRun};
-    ghost use Rattle.checkpoints.specs.Reports.{reported_in};
+    ghost use Rattle.checkpoints.specs.MarkedSteps.{reported_in};
 
     ghost Value = { SegmentRun R R.Pending };
 
@@ -108,7 +108,7 @@ pub fn run_of<R: Register, S: HasStep>(
 
 /// Replays `steps`, in order, from `entry`, whose register they must fit. Returns the run of these
 /// steps, with `entry` as its entry. The steps aren't copied. Fails only if memory runs out.
-pub fn run_of_all<R: Register>(
+pub fn run_of_owned<R: Register>(
     alloc: Global,
     entry: Arc<Config<R>>,
     steps: Vec<Step>,
@@ -117,7 +117,7 @@ pub fn run_of_all<R: Register>(
     ensures entry { IfOk result (λ run. run.entry ≡ arc_value entry) }
     ensures steps { IfOk result (λ run. run.steps ≡ steps.items) }
 {
-    let Made { reported, config } = replay_all(alloc, entry.copy(alloc)?, steps)?;
+    let MarkedReplay { reported, config } = replay_owned(alloc, entry.copy(alloc)?, steps)?;
     let exit = Arc::new(alloc, config)?;
     Ok(Run {
         entry,

@@ -128,11 +128,11 @@ IsAskedBy words (Refused text) = IsWrong words
 IsAskedBy words Memory = ⊤
 
 -- the outcome is a run of the program with this FILE, these options and this PATH; or it is Memory
-abbrev pub IsRunInvocation : Option Text → Options → Option Text → Invocation → Type 0
-IsRunInvocation file options save (Run f o s) = (option_map (λ p. p.now) f ≡ file) × (o ≡ options) × (option_map (λ p. p.now) s ≡ save)
-IsRunInvocation file options save (Help text) = ⊥
-IsRunInvocation file options save (Refused text) = ⊥
-IsRunInvocation file options save Memory = ⊤
+abbrev pub IsRunOrMemory : Option Text → Options → Option Text → Invocation → Type 0
+IsRunOrMemory file options save (Run f o s) = (option_map (λ p. p.now) f ≡ file) × (o ≡ options) × (option_map (λ p. p.now) s ≡ save)
+IsRunOrMemory file options save (Help text) = ⊥
+IsRunOrMemory file options save (Refused text) = ⊥
+IsRunOrMemory file options save Memory = ⊤
 
 -- the options of a run if the words give none
 abbrev pub default_options : Options

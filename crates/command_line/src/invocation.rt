@@ -3,7 +3,7 @@
 ghost use Rattle.std.specs.Prelude.{◌≡◌, [], None, IfOk, false, map};
 ghost use Rattle.std.specs.String.{string_bytes};
 ghost use Rattle.clap.specs.Words.{app_of, kind_of, rule_of};
-ghost use Rattle.command_line.specs.CommandLine.{IsAskedBy, IsRunInvocation, Explains, option_rule, path_rule, default_options, program};
+ghost use Rattle.command_line.specs.CommandLine.{IsAskedBy, IsRunOrMemory, Explains, option_rule, path_rule, default_options, program};
 
 use crate::options::Options;
 use clap::builder::ValueParser;
@@ -54,7 +54,7 @@ pub enum Invocation<'a> {
 /// are no words, they ask for a run with the default options, without FILE and PATH.
 pub fn parse_words<'a>(alloc: Global, words: &'a [String]) -> Invocation<'a>
     ensures asked { IsAskedBy (map string_bytes words.entry.now) result }
-    ensures bare { words.entry.now ≡ [] → IsRunInvocation None default_options None result }
+    ensures bare { words.entry.now ≡ [] → IsRunOrMemory None default_options None result }
 {
     let Ok(command) = command(alloc) else {
         return Invocation::Memory;
@@ -63,6 +63,7 @@ pub fn parse_words<'a>(alloc: Global, words: &'a [String]) -> Invocation<'a>
         Ok(matches) => matches,
         Err(error) => return invocation_of(alloc, &error),
     };
+    // Each of these options has a default, so it always has a number.
     let Some(workers) = matches.get_one::<u32>(WORKERS) else {
         unreachable!();
     };

@@ -3,8 +3,8 @@ use Rattle.std.proofs.Common.{◌≡◌, ℕ, ◌+◌, ◌<◌, ◌≤◌, Bool,
 use Rattle.std.proofs.lemmas.Bool.Decides.{nat_tests}
 use Rattle.std.specs.List.{fold}
 use Rattle.std.proofs.lemmas.List.Sums.{fold_push}
-use Rattle.conversation.specs.Scripts.{Definition, Marks, ScriptProgress, beginning, further, next_line, after_lines, answers_to, lines_of, all_but_last, whole_lines, is_line_end, IsLineAnswer}
-use Rattle.conversation.specs.Answering.{HasAnswered, HasNoEnd, kept_with}
+use Rattle.conversation.specs.Scripts.{LineAnswering, Marks, ScriptProgress, beginning, further, next_line, after_lines, answers_to, lines_of, all_but_last, whole_lines, is_line_end, IsLineAnswer}
+use Rattle.conversation.specs.Pieces.{HasAnswered, HasNoEnd, kept_with}
 use Rattle.conversation.proofs.Splits.{split-push, split-push_cut, split-append}
 use Rattle.conversation.proofs.Fronts.{front_more}
 use Rattle.conversation.specs.declared.limits.TheConstants.{KEPT_BYTES}
@@ -13,6 +13,7 @@ use Rattle.conversation.specs.declared.limits.TheConstants.{KEPT_BYTES}
 abbrev with_mark : Marks → ℕ → Bool → Marks
 with_mark marks n memory k = cond (nat_eq k n) memory (marks k)
 
+-- line n has the new mark, and the lines before it have their own
 with_mark_here : (marks : Marks) (n : ℕ) (memory : Bool) → with_mark marks n memory n ≡ memory
 with_mark_here marks n memory = ap (λ b. cond b memory (marks n)) (eq-eqb n n refl)
 
@@ -61,7 +62,7 @@ first_lines [] next others = refl
 first_lines (line ∷ []) next others = refl
 first_lines (line ∷ more ∷ whole) next others = ap (λ (ls : List (List ℕ)). line ∷ ls) (first_lines (more ∷ whole) next others)
 
-module _ {W : Type 0} (define : Definition W) where
+module _ {W : Type 0} (define : LineAnswering W) where
   -- what answering these lines gives depends on no other lines' marks
   same_marks : (old new : Marks) (lines : List (List ℕ)) (p : ScriptProgress W) → ((k : ℕ) → k ≤ p.lines + length lines → old k ≡ new k)
       → fold (next_line define old) p lines ≡ fold (next_line define new) p lines
@@ -70,6 +71,7 @@ module _ {W : Type 0} (define : Definition W) where
       same_marks old new lines (next_line define old p line) (λ k le. h k (omega arith))
       ∙ ap (λ memory. fold (next_line define new) (further p (define memory (p.lines + 1) line p.world)) lines) (h (p.lines + 1) (omega arith))
 
+  -- each line that is answered counts as one
   count_lines : (marks : Marks) (lines : List (List ℕ)) (p : ScriptProgress W) → (fold (next_line define marks) p lines).lines ≡ p.lines + length lines
   count_lines marks [] p = omega arith
   count_lines marks (line ∷ lines) p = omega (arith, count_lines marks lines (next_line define marks p line))
@@ -115,13 +117,13 @@ module _ {W : Type 0} (define : Definition W) where
         }
 
 -- all lines are answered, the last one too
-pub record HasAnsweredAll {W : Type 0} (define : Definition W) (start : W) (script : List ℕ) (world : W) (lines : ℕ) (text : List ℕ) : Type 0 where
+pub record HasAnsweredAll {W : Type 0} (define : LineAnswering W) (start : W) (script : List ℕ) (world : W) (lines : ℕ) (text : List ℕ) : Type 0 where
   pub marks : Marks
   pub same_world : world ≡ (after_lines define start (lines_of script) marks).world
   pub same_lines : lines ≡ (after_lines define start (lines_of script) marks).lines
   pub same_text : text ≡ answers_to define start (lines_of script) marks
 
-module _ {W : Type 0} (define : Definition W) (front : (memory : Bool) (number : ℕ) (line : List ℕ) (w : W) → define memory number (take KEPT_BYTES line) w ≡ define memory number line w)
+module _ {W : Type 0} (define : LineAnswering W) (front : (memory : Bool) (number : ℕ) (line : List ℕ) (w : W) → define memory number (take KEPT_BYTES line) w ≡ define memory number line w)
     (start : W) (seen : List ℕ) (world : W) (lines : ℕ) (line text : List ℕ) (t : HasAnswered define start seen world lines line text) where
   -- once the last line is answered too, all lines are
   pub answered_all : (new_world : W) (new_text : List ℕ) → IsLineAnswer define (lines + 1) line world new_world text new_text → HasAnsweredAll define start seen new_world (lines + 1) new_text
@@ -179,7 +181,7 @@ module _ {W : Type 0} (define : Definition W) (front : (memory : Bool) (number :
       }
 
 -- an answer that was added to one text was also added to a longer text which ends with it
-pub line_answer_append : {W : Type 0} (define : Definition W) (number : ℕ) (line : List ℕ) (old new : W) (before after front : List ℕ)
+pub line_answer_append : {W : Type 0} (define : LineAnswering W) (number : ℕ) (line : List ℕ) (old new : W) (before after front : List ℕ)
     → IsLineAnswer define number line old new before after → IsLineAnswer define number line old new (front ++ before) (front ++ after)
 line_answer_append define number line old new before after front a =
     record { memory = a.memory; text = a.text; answered = a.answered; added = ap (λ xs. front ++ xs) a.added ∙ sym (append_assoc front before a.text) }

@@ -1,8 +1,8 @@
 -- Definitions that claim that something exists: an example of each, and a near miss.
 use Rattle.std.proofs.Common.{ℕ, zero, suc, ◌≡◌, ◌+◌, false, List, [], ◌∷◌, ◌++◌, Some, length, drop, take, slice_index_or, ap, refl, sym, ◌∙◌, append-nil, arith}
 use Rattle.conversation.specs.declared.fault.StreamFault.TheVariants.{Read, Memory}
-use Rattle.conversation.specs.Moments.{streams}
-use Rattle.conversation.specs.Scripts.{Definition, Marks, lines_of, whole_lines, IsLineAnswer}
+use Rattle.conversation.specs.Streams.{streams}
+use Rattle.conversation.specs.Scripts.{LineAnswering, Marks, lines_of, whole_lines, IsLineAnswer}
 use Rattle.conversation.specs.Conversations.{Answering, IsFront, WroteFront, IsAnswered, WentOut, EndsWithFault}
 
 abbrev first : List ℕ → ℕ
@@ -16,7 +16,7 @@ abbrev unmarked : Marks
 unmarked number = false
 
 -- a line is answered by its number, and adds one to the world
-abbrev numbering : Definition ℕ
+abbrev numbering : LineAnswering ℕ
 numbering memory number line w = record { world = w + 1; text = number ∷ [] }
 
 -- the one line `a`, and its end

@@ -4,7 +4,7 @@ use Rattle.std.proofs.lemmas.List.{take_all, take-append-le, length-take}
 use Rattle.std.proofs.lemmas.Bool.{cases_lt}
 use Rattle.std.proofs.Math.Seq.{take-append-add}
 use Rattle.conversation.specs.declared.limits.TheConstants.{KEPT_BYTES}
-use Rattle.conversation.specs.Answering.{kept_with}
+use Rattle.conversation.specs.Pieces.{kept_with}
 
 take_none : (n : ℕ) (bytes : List ℕ) → n ≡ 0 → take n bytes ≡ []
 take_none zero bytes e = refl

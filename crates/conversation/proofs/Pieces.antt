@@ -2,11 +2,11 @@
 use Rattle.std.proofs.Common.{◌≡◌, ℕ, ◌+◌, ◌<◌, ◌≤◌, Bool, List, [], ◌++◌, length, take, Option, refl, sym, ap, subst, ◌∙◌, arith, append_assoc, append-nil, length-append, inl, inr}
 use Rattle.std.specs.Io.KnownBytes.{Appends, Consumes, IsAtEnd}
 use Rattle.conversation.specs.declared.fault.StreamFault.TheVariants.{Read, Write, TooLong, Memory}
-use Rattle.conversation.specs.Moments.{Streams, streams}
-use Rattle.conversation.specs.Scripts.{Definition, answers_to, IsLineAnswer}
+use Rattle.conversation.specs.Streams.{Streams, streams}
+use Rattle.conversation.specs.Scripts.{LineAnswering, answers_to, IsLineAnswer}
 use Rattle.std.specs.Prelude.{⊤, IfErr, OnOk, Result, Ok, Err}
 use Rattle.conversation.specs.declared.fault.StreamFault.{StreamFault}
-use Rattle.conversation.specs.Answering.{HasAnswered, Reached, Finished}
+use Rattle.conversation.specs.Pieces.{HasAnswered, Reached, Finished}
 use Rattle.conversation.specs.Conversations.{Leaves, EndsWithFault, IsFront}
 use Rattle.conversation.proofs.AnsweredLines.{HasAnsweredAll, answered_start, answered_whole, answered_first, answered_all, line_answer_append}
 use Rattle.std.proofs.KnownBytes.{Appends-nil, Appends-trans, Consumes-nil, Consumes-trans}
@@ -18,7 +18,7 @@ consumes_kept a b c s h k = subst (Consumes a c) (append-nil s) (Consumes-trans 
 front_append : (text front out : List ℕ) → IsFront front out → IsFront (text ++ front) (text ++ out)
 front_append text front out h = (h.0, ap (λ xs. text ++ xs) h.1 ∙ sym (append_assoc text front h.0))
 
-module _ {W : Type 0} (define : Definition W) (start : W) where
+module _ {W : Type 0} (define : LineAnswering W) (start : W) where
   pub reached_start : (before : Streams) (lines : ℕ) (line : List ℕ) → lines ≡ 0 → line ≡ [] → Reached define start before before 0 start lines line
   reached_start before lines line n l = record {
     seen = [];
@@ -34,6 +34,7 @@ module _ {W : Type 0} (define : Definition W) (start : W) where
     pub reached_kept : (next : Option (List ℕ)) → Consumes after.unread next [] → Reached define start before (streams next after.written) count world lines line
     reached_kept next k = record { seen = r.seen; text = r.text; read = consumes_kept before.unread after.unread next r.seen r.read k; counted = r.counted; wrote = r.wrote; reported = r.reported }
 
+    -- a read that fails takes no bytes: all whole lines that were read are answered
     pub fault_read : (next : Option (List ℕ)) → Consumes after.unread next [] → count ≤ MOST_SCRIPT_BYTES → EndsWithFault (answers_to define start) Read before (streams next after.written)
     fault_read next k few = record {
       seen = r.seen;
@@ -45,8 +46,9 @@ module _ {W : Type 0} (define : Definition W) (start : W) where
       went = answered_whole define start r.seen world lines line r.text r.reported;
     }
 
-    pub fault_long : count ≤ MOST_SCRIPT_BYTES → EndsWithFault (answers_to define start) TooLong before after
-    fault_long few = record {
+    -- a script that is too long: all whole lines that were read are answered
+    pub fault_too_long : count ≤ MOST_SCRIPT_BYTES → EndsWithFault (answers_to define start) TooLong before after
+    fault_too_long few = record {
       seen = r.seen;
       marks = r.reported.marks;
       text = r.text;
@@ -72,6 +74,7 @@ module _ {W : Type 0} (define : Definition W) (start : W) where
     -- the answers of a piece, and the part of them that the writer took
     module _ (next : Option (List ℕ)) (piece : List ℕ) (k : Consumes after.unread next piece) (n : ℕ) (size : length piece ≡ n)
         (new_world : W) (new_lines : ℕ) (new_line out : List ℕ) (t : HasAnswered define start (r.seen ++ piece) new_world new_lines new_line (r.text ++ out)) where
+      -- if the writer took all answers of the piece, the piece is reached too
       pub reached_more : (last : Option (List ℕ)) (last_lines : ℕ) (last_line : List ℕ) → last_lines ≡ new_lines → last_line ≡ new_line → Appends after.written last out
           → Reached define start before (streams next last) (count + n) new_world last_lines last_line
       reached_more last last_lines last_line same_lines same_line w = record {
@@ -92,6 +95,7 @@ module _ {W : Type 0} (define : Definition W) (start : W) where
         };
       }
 
+      -- if a write failed, the writer took a prefix of the piece's answers
       pub fault_write : (last : Option (List ℕ)) (front : List ℕ) → IsFront front out → Appends after.written last front → count + n ≤ MOST_SCRIPT_BYTES
           → EndsWithFault (answers_to define start) Write before (streams next last)
       fault_write last front f w few =
@@ -128,34 +132,36 @@ module _ {W : Type 0} (define : Definition W) (start : W) where
           let b = line_answer_append define (lines + 1) line world new_world sent out r.text a in
           record { memory = b.memory; text = b.text; answered = b.answered; added = b.added ∙ ap (λ xs. (r.text ++ xs) ++ b.text) none ∙ ap (λ xs. xs ++ b.text) (append-nil r.text) }
 
-      all : HasAnsweredAll define start r.seen new_world (lines + 1) (r.text ++ out)
-      all = answered_all define reads_front start r.seen world lines line r.text r.reported new_world (r.text ++ out) last_line_added
+      every_line : HasAnsweredAll define start r.seen new_world (lines + 1) (r.text ++ out)
+      every_line = answered_all define reads_front start r.seen world lines line r.text r.reported new_world (r.text ++ out) last_line_added
 
-      pub all_answered : (last : Option (List ℕ)) → Appends after.written last out → Leaves define start new_world before (streams after.unread last)
-      all_answered last w = record {
+      -- if the writer took the last answer, the whole script is answered
+      pub leaves_at_end : (last : Option (List ℕ)) → Appends after.written last out → Leaves define start new_world before (streams after.unread last)
+      leaves_at_end last w = record {
         answered =
             record {
               script = r.seen;
-              marks = all.marks;
+              marks = every_line.marks;
               read = r.read;
               ended = ended;
               short = omega (arith, r.counted);
-              wrote = subst (λ xs. Appends before.written last xs) all.same_text (Appends-trans before.written after.written last r.text out r.wrote w);
+              wrote = subst (λ xs. Appends before.written last xs) every_line.same_text (Appends-trans before.written after.written last r.text out r.wrote w);
             };
-        left = all.same_world;
+        left = every_line.same_world;
       }
 
-      pub fault_last : (last : Option (List ℕ)) (front : List ℕ) → IsFront front out → Appends after.written last front → EndsWithFault (answers_to define start) Write before (streams after.unread last)
-      fault_last last front f w =
+      -- if the last write failed, the writer took a prefix of the last answer
+      pub fault_last_write : (last : Option (List ℕ)) (front : List ℕ) → IsFront front out → Appends after.written last front → EndsWithFault (answers_to define start) Write before (streams after.unread last)
+      fault_last_write last front f w =
           let h = front_append r.text front out f in
           record {
             seen = r.seen;
-            marks = all.marks;
+            marks = every_line.marks;
             text = r.text ++ front;
             read = r.read;
             few = omega (arith, r.counted);
             wrote = Appends-trans before.written after.written last r.text front r.wrote w;
-            went = inr (ended, (h.0, sym all.same_text ∙ h.1));
+            went = inr (ended, (h.0, sym every_line.same_text ∙ h.1));
           }
 
   -- the two clauses of `converse` about its end: without a fault, and with one
@@ -163,11 +169,11 @@ module _ {W : Type 0} (define : Definition W) (start : W) where
     abbrev IsEnd : Result ⊤ StreamFault → Type 0
     IsEnd r = record { done : OnOk r (Leaves define start left before after); fault : IfErr r (λ e. EndsWithFault (answers_to define start) e before after) }
 
-    pub finished : (r : Result ⊤ StreamFault) → Finished define start before after left r → IsEnd r
-    finished (Ok done) h = record { done = h; fault = tt }
-    finished (Err e) h = record { done = tt; fault = h }
+    pub end_from_finished : (r : Result ⊤ StreamFault) → Finished define start before after left r → IsEnd r
+    end_from_finished (Ok done) h = record { done = h; fault = tt }
+    end_from_finished (Err e) h = record { done = tt; fault = h }
 
   -- a conversation that ends after a last read, of no bytes, ends as `IsEnd` says
-  pub finished_after : (before after : Streams) (count : ℕ) (world : W) (lines : ℕ) (line : List ℕ) → Reached define start before after count world lines line → (next : Option (List ℕ)) → Consumes after.unread next []
+  pub end_after_last_read : (before after : Streams) (count : ℕ) (world : W) (lines : ℕ) (line : List ℕ) → Reached define start before after count world lines line → (next : Option (List ℕ)) → Consumes after.unread next []
       → (end : Streams) (left : W) (r : Result ⊤ StreamFault) → (Reached define start before (streams next after.written) count world lines line → Finished define start before end left r) → IsEnd before end left r
-  finished_after before after count world lines line h next k end left r f = finished before end left r (f (reached_kept before after count world lines line h next k))
+  end_after_last_read before after count world lines line h next k end left r f = end_from_finished before end left r (f (reached_kept before after count world lines line h next k))

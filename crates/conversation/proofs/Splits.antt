@@ -5,7 +5,7 @@ use Rattle.std.proofs.lemmas.List.Splits.{slice_split-cons_yes, slice_split-cons
 
 module _ (p : ℕ → Bool) where
   -- a text has at least one part
-  pub split_nonempty : (xs : List ℕ) → 0 < length (slice_split p xs)
+  split_nonempty : (xs : List ℕ) → 0 < length (slice_split p xs)
   split_nonempty xs = omega (arith, length-slice_split p xs)
 
   onto_first-append : (x : ℕ) (parts more : List (List ℕ)) → 0 < length parts → onto_first x (parts ++ more) ≡ onto_first x parts ++ more

@@ -4,8 +4,8 @@ use Rattle.std.specs.Io.KnownBytes.{Appends, Consumes, IsAtEnd}
 use Rattle.conversation.specs.declared.fault.StreamFault.{StreamFault}
 use Rattle.conversation.specs.declared.fault.StreamFault.TheVariants.{Read, Write, TooLong, Memory}
 use Rattle.conversation.specs.declared.limits.TheConstants.{MOST_SCRIPT_BYTES}
-use Rattle.conversation.specs.Moments.{Streams}
-use Rattle.conversation.specs.Scripts.{Definition, Marks, after_lines, answers_to, lines_of, whole_lines}
+use Rattle.conversation.specs.Streams.{Streams}
+use Rattle.conversation.specs.Scripts.{LineAnswering, Marks, after_lines, answers_to, lines_of, whole_lines}
 
 -- how scripts are answered: a function from a script's lines, and marks of those that were refused
 -- memory, to the text of all answers
@@ -31,7 +31,7 @@ pub record IsAnswered (answering : Answering) (before after : Streams) : Type 0 
   pub wrote : Appends before.written after.written (answering (lines_of script) marks)
 
 -- A whole script was read and answered, and its lines turned the world `start` into `world`.
-pub record Leaves {W : Type 0} (define : Definition W) (start world : W) (before after : Streams) : Type 0 where
+pub record Leaves {W : Type 0} (define : LineAnswering W) (start world : W) (before after : Streams) : Type 0 where
   pub answered : IsAnswered (answers_to define start) before after
   pub left : world ≡ (after_lines define start (lines_of answered.script) answered.marks).world
 

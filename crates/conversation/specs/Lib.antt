@@ -1,7 +1,7 @@
 pub mod Scripts
-pub mod Moments
+pub mod Streams
 pub mod Conversations
-pub mod Answering
+pub mod Pieces
 pub mod Amounts
 pub mod Faults
-pub mod Sources
+pub mod SourceFaults

@@ -12,8 +12,8 @@ pub record Answered (W : Type 0) : Type 0 where
 
 -- how one line is answered, given whether the line was refused memory (whether memory ran out for
 -- what the line asks for), the line's number, its bytes, and the world that it finds
-abbrev pub Definition : Type 0 → Type 0
-Definition W = Bool → ℕ → List ℕ → W → Answered W
+abbrev pub LineAnswering : Type 0 → Type 0
+LineAnswering W = Bool → ℕ → List ℕ → W → Answered W
 
 -- for each line's number, whether that line was refused memory
 abbrev pub Marks : Type 0
@@ -55,22 +55,22 @@ further p answered = record { world = answered.world; lines = p.lines + 1; text 
 
 -- the progress p after the next line, which is answered as `define` says; `marks` says whether the
 -- line was refused memory
-abbrev pub next_line : {W : Type 0} → Definition W → Marks → ScriptProgress W → List ℕ → ScriptProgress W
+abbrev pub next_line : {W : Type 0} → LineAnswering W → Marks → ScriptProgress W → List ℕ → ScriptProgress W
 next_line define marks p line = further p (define (marks (p.lines + 1)) (p.lines + 1) line p.world)
 
 -- the progress after these lines, from the opening world `start`; the marked lines were refused
 -- memory
-abbrev pub after_lines : {W : Type 0} → Definition W → W → List (List ℕ) → Marks → ScriptProgress W
+abbrev pub after_lines : {W : Type 0} → LineAnswering W → W → List (List ℕ) → Marks → ScriptProgress W
 after_lines define start lines marks = fold (next_line define marks) (beginning start) lines
 
 -- the answers to these lines, one after another, from the opening world `start`; the marked lines
 -- were refused memory
-abbrev pub answers_to : {W : Type 0} → Definition W → W → List (List ℕ) → Marks → List ℕ
+abbrev pub answers_to : {W : Type 0} → LineAnswering W → W → List (List ℕ) → Marks → List ℕ
 answers_to define start lines marks = (after_lines define start lines marks).text
 
 -- a line was answered as `define` says, perhaps as one that was refused memory: the answer's text
 -- was added to `before`, which gives `after`, and the line turned the world `old` into `new`
-pub record IsLineAnswer {W : Type 0} (define : Definition W) (number : ℕ) (line : List ℕ) (old new : W) (before after : List ℕ) : Type 0 where
+pub record IsLineAnswer {W : Type 0} (define : LineAnswering W) (number : ℕ) (line : List ℕ) (old new : W) (before after : List ℕ) : Type 0 where
   pub memory : Bool
   pub text : List ℕ
   pub answered : define memory number line old ≡ record { world = new; text = text }
@@ -80,6 +80,6 @@ pub record IsLineAnswer {W : Type 0} (define : Definition W) (number : ℕ) (lin
 -- and that a call returns Ok. Then the call has answered its line as `define` says, either for a
 -- line that was refused memory or for one that wasn't: it has added the answer's text to `out`, and
 -- left the world that `define` gives. After the call, too, nobody else changes what lines see.
-abbrev pub AnswersBy : {A W : Type 0} → (A → Type 0) → Definition W → (A → W) → (MutBor A → ℕ → Bor (List ℕ) → MutBor (Vec ℕ) → Result ⊤ AllocError → MutBor A → MutBor (Vec ℕ) → Type 0) → Type 0
+abbrev pub AnswersBy : {A W : Type 0} → (A → Type 0) → LineAnswering W → (A → W) → (MutBor A → ℕ → Bor (List ℕ) → MutBor (Vec ℕ) → Result ⊤ AllocError → MutBor A → MutBor (Vec ℕ) → Type 0) → Type 0
 AnswersBy {A} alone define world post = (state : MutBor A) (number : ℕ) (line : Bor (List ℕ)) (out : MutBor (Vec ℕ)) (left : MutBor A) (added : MutBor (Vec ℕ)) → post state number line out (Ok tt) left added
     → alone state.now → IsLineAnswer define number line.now (world state.now) (world left.now) out.now.items added.now.items × alone left.now

@@ -4,22 +4,22 @@
 ghost use Rattle.std.specs.Prelude.{◌≡◌, ◌++◌, ◌∷◌, [], ◌<◌, ◌≤◌, ◌+◌, ◌^◌, ℕ, List, Option, OnOk, OnErr, IfOk, IfErr, MatchOption, ◌⊎◌, length, take};
 ghost use Rattle.std.specs.Io.KnownBytes.{Appends, Consumes, IsAtEnd};
 ghost use Rattle.conversation.specs.declared.limits.TheConstants.{KEPT_BYTES, MOST_SCRIPT_BYTES};
-ghost use Rattle.conversation.specs.Moments.{Streams, streams};
+ghost use Rattle.conversation.specs.Streams.{Streams, streams};
 ghost use Rattle.conversation.specs.Scripts.{answers_to, AnswersBy, IsLineAnswer};
-ghost use Rattle.conversation.specs.Answering.{HasNoEnd, kept_with, AnswersFurther, Reached, PieceAnswered, Finished};
+ghost use Rattle.conversation.specs.Pieces.{HasNoEnd, kept_with, AnswersFurther, Reached, PieceAnswered, Finished};
 ghost use Rattle.conversation.specs.Conversations.{Leaves, EndsWithFault, WroteFront};
 ghost use Rattle.conversation.specs.Amounts.{MayEndBy, nothing};
 
-use crate::answering::Answers;
+use crate::answers::Answers;
 use crate::fault::StreamFault;
 use crate::limits::KEPT_BYTES;
-use crate::streams::write_whole;
 use crate::taken::Taken;
+use crate::writing::write_whole;
 use bstr::ByteSlice;
 use std::alloc::{AllocError, Global};
 use std::io::{Read, Write};
 
-/// The most bytes that one read takes.
+/// The most bytes of a script that one read takes.
 const PIECE_BYTES: usize = 4096;
 
 /// The end of a line.
@@ -50,24 +50,24 @@ impl Conversation {
 
     /// Answers the lines that end in a piece of the script: adds the answers to `out`, and writes
     /// none of them. Of the line that hasn't ended yet, keeps at most the first `KEPT_BYTES` bytes.
-    fn take<A: Answers, F: Fn(&mut A, u32, &[u8], &mut Vec<u8>) -> Result<(), AllocError>>(
+    fn answer_each<A: Answers, F: Fn(&mut A, u32, &[u8], &mut Vec<u8>) -> Result<(), AllocError>>(
         &mut self,
-        answers: &mut A,
+        state: &mut A,
         answer: &F,
         piece: &[u8],
     ) -> Result<(), AllocError>
         requires few { self.old.lines + length piece.now < 2 ^ 32 }
         requires callable { F.IsAlwaysCallable answer.now }
         requires answers { AnswersBy A.alone A.define A.world (F.post answer.now) }
-        ensures reported { A.alone answers.old
-            → OnOk result (AnswersFurther A.define (A.world answers.old)
-            self.old (A.world answers.new) self.new piece.now) }
-        ensures alone { A.alone answers.old → OnOk result (A.alone answers.new) }
+        ensures reported { A.alone state.old
+            → OnOk result (AnswersFurther A.define (A.world state.old)
+            self.old (A.world state.new) self.new piece.now) }
+        ensures alone { A.alone state.old → OnOk result (A.alone state.new) }
         ensures lines { self.new.lines ≤ self.old.lines + length piece.now }
     {
         let mut rest = piece;
         'lines: while let Some((end, following)) = first_line(rest) {
-            self.answer_line(end, answers, answer)?;
+            self.answer_line(end, state, answer)?;
             rest = following;
         }
         self.keep(rest)
@@ -78,7 +78,7 @@ impl Conversation {
     fn answer_line<A: Answers, F: Fn(&mut A, u32, &[u8], &mut Vec<u8>) -> Result<(), AllocError>>(
         &mut self,
         end: &[u8],
-        answers: &mut A,
+        state: &mut A,
         answer: &F,
     ) -> Result<(), AllocError>
         requires few { self.old.lines + 1 < 2 ^ 32 }
@@ -87,25 +87,26 @@ impl Conversation {
         ensures lines { self.new.lines ≤ self.old.lines + 1 }
         ensures counted { OnOk result (self.new.lines ≡ self.old.lines + 1) }
         ensures line { OnOk result (self.new.line.items ≡ []) }
-        ensures answer { A.alone answers.old
+        ensures answer { A.alone state.old
             → OnOk result (IsLineAnswer A.define (self.old.lines + 1)
-            (kept_with self.old.line.items end.now) (A.world answers.old) (A.world answers.new)
+            (kept_with self.old.line.items end.now) (A.world state.old) (A.world state.new)
             self.old.out.items self.new.out.items) }
-        ensures alone { A.alone answers.old → OnOk result (A.alone answers.new) }
+        ensures alone { A.alone state.old → OnOk result (A.alone state.new) }
     {
+        // By the slice, since no clause of `Vec::is_empty` is about the items.
         if self.line.as_slice().is_empty() {
             self.lines += 1;
-            answer(answers, self.lines, kept_front(end), &mut self.out)?;
+            answer(state, self.lines, kept_front(end), &mut self.out)?;
             return Ok(());
         }
         self.keep(end)?;
-        self.end_line(answers, answer)
+        self.answer_kept(state, answer)
     }
 
     /// Answers the kept line, which has ended, and adds the answer to `out`.
-    fn end_line<A: Answers, F: Fn(&mut A, u32, &[u8], &mut Vec<u8>) -> Result<(), AllocError>>(
+    fn answer_kept<A: Answers, F: Fn(&mut A, u32, &[u8], &mut Vec<u8>) -> Result<(), AllocError>>(
         &mut self,
-        answers: &mut A,
+        state: &mut A,
         answer: &F,
     ) -> Result<(), AllocError>
         requires callable { F.IsAlwaysCallable answer.now }
@@ -113,14 +114,14 @@ impl Conversation {
         requires few { self.old.lines + 1 < 2 ^ 32 }
         ensures lines { self.new.lines ≡ self.old.lines + 1 }
         ensures line { OnOk result (self.new.line.items ≡ []) }
-        ensures answer { A.alone answers.old
+        ensures answer { A.alone state.old
             → OnOk result (IsLineAnswer A.define (self.old.lines + 1)
-            self.old.line.items (A.world answers.old) (A.world answers.new)
+            self.old.line.items (A.world state.old) (A.world state.new)
             self.old.out.items self.new.out.items) }
-        ensures alone { A.alone answers.old → OnOk result (A.alone answers.new) }
+        ensures alone { A.alone state.old → OnOk result (A.alone state.new) }
     {
         self.lines += 1;
-        answer(answers, self.lines, &self.line, &mut self.out)?;
+        answer(state, self.lines, &self.line, &mut self.out)?;
         self.line.clear();
         Ok(())
     }
@@ -164,32 +165,26 @@ impl Conversation {
         A: Answers,
         F: Fn(&mut A, u32, &[u8], &mut Vec<u8>) -> Result<(), AllocError>,
         W: Write,
-    >(
-        &mut self,
-        answers: &mut A,
-        answer: &F,
-        piece: &[u8],
-        writer: &mut W,
-    ) -> Result<(), StreamFault>
+    >(&mut self, state: &mut A, answer: &F, piece: &[u8], writer: &mut W) -> Result<(), StreamFault>
         requires few { self.old.lines + length piece.now < 2 ^ 32 }
         requires sent { self.old.out.items ≡ [] }
         requires callable { F.IsAlwaysCallable answer.now }
         requires answers { AnswersBy A.alone A.define A.world (F.post answer.now) }
         ensures out { OnOk result (self.new.out.items ≡ []) }
         ensures lines { self.new.lines ≤ self.old.lines + length piece.now }
-        ensures alone { A.alone answers.old → OnOk result (A.alone answers.new) }
+        ensures alone { A.alone state.old → OnOk result (A.alone state.new) }
         ensures fault { IfErr result
             (λ e. (e ≡ StreamFault.Memory) ⊎ (e ≡ StreamFault.Write)) }
-        ensures answered { A.alone answers.old
+        ensures answered { A.alone state.old
             → (start : A.Worlds) (before : Streams) (unread next : Option (List ℕ)) (count : ℕ)
             → Consumes unread next piece.now → count + length piece.now ≤ MOST_SCRIPT_BYTES
             → Reached A.define start before (streams unread (W.contents writer.old))
-            count (A.world answers.old) self.old.lines self.old.line.items
+            count (A.world state.old) self.old.lines self.old.line.items
             → PieceAnswered A.define start before (streams next (W.contents writer.new))
-            (count + length piece.now) (A.world answers.new) self.new.lines self.new.line.items
+            (count + length piece.now) (A.world state.new) self.new.lines self.new.line.items
             result }
     {
-        let Ok(()) = self.take(answers, answer, piece) else {
+        let Ok(()) = self.answer_each(state, answer, piece) else {
             return Err(StreamFault::Memory);
         };
         let Ok(()) = self.send(writer) else {
@@ -204,23 +199,23 @@ impl Conversation {
         A: Answers,
         F: Fn(&mut A, u32, &[u8], &mut Vec<u8>) -> Result<(), AllocError>,
         W: Write,
-    >(&mut self, answers: &mut A, answer: &F, writer: &mut W) -> Result<(), StreamFault>
+    >(&mut self, state: &mut A, answer: &F, writer: &mut W) -> Result<(), StreamFault>
         requires few { self.old.lines + 1 < 2 ^ 32 }
         requires sent { self.old.out.items ≡ [] }
         requires callable { F.IsAlwaysCallable answer.now }
         requires answers { AnswersBy A.alone A.define A.world (F.post answer.now) }
-        ensures alone { A.alone answers.old → OnOk result (A.alone answers.new) }
+        ensures alone { A.alone state.old → OnOk result (A.alone state.new) }
         ensures fault { IfErr result
             (λ e. (e ≡ StreamFault.Memory) ⊎ (e ≡ StreamFault.Write)) }
-        ensures ended { A.alone answers.old
+        ensures ended { A.alone state.old
             → (start : A.Worlds) (before : Streams) (unread : Option (List ℕ)) (count : ℕ)
             → count < MOST_SCRIPT_BYTES → IsAtEnd unread
             → Reached A.define start before (streams unread (W.contents writer.old)) count
-            (A.world answers.old) self.old.lines self.old.line.items
+            (A.world state.old) self.old.lines self.old.line.items
             → Finished A.define start before (streams unread (W.contents writer.new))
-            (A.world answers.new) result }
+            (A.world state.new) result }
     {
-        let Ok(()) = self.end_line(answers, answer) else {
+        let Ok(()) = self.answer_kept(state, answer) else {
             return Err(StreamFault::Memory);
         };
         let Ok(()) = self.send(writer) else {
@@ -248,11 +243,11 @@ fn first_line(text: &[u8]) -> Option<(&[u8], &[u8])>
     Some((line, &following[1..]))
 }
 
-/// Answers a script: reads it in pieces from `reader`, calls `answer` for each line, and writes the
-/// answers to `writer`. The answers to the lines that end in one read are written before the next
-/// read. While nobody else changes what lines see, each call of `answer` that returns Ok has to
-/// answer its line as `A::define` says. `taken` has to say that nothing was read yet, and counts
-/// what is read.
+/// Answers a script: reads it in pieces from `reader`, calls `answer` with `state` for each line,
+/// and writes the answers to `writer`. The answers to the lines that end in one read are written
+/// before the next read. While nobody else changes what lines see, each call of `answer` that
+/// returns Ok has to answer its line as `A::define` says. `taken` has to say that nothing was read
+/// yet, and counts what is read.
 ///
 /// If nobody else changes what lines see, then on success the whole script was read, the answers to
 /// all its lines were written, the world is the one that these lines leave, and still nobody else
@@ -270,7 +265,7 @@ pub fn converse<
     W: Write,
 >(
     alloc: Global,
-    answers: &mut A,
+    state: &mut A,
     answer: &F,
     reader: &mut R,
     taken: &mut Taken,
@@ -279,13 +274,13 @@ pub fn converse<
     requires callable { F.IsAlwaysCallable answer.now }
     requires answers { AnswersBy A.alone A.define A.world (F.post answer.now) }
     requires unread { taken.old ≡ nothing }
-    ensures done { A.alone answers.old → OnOk result (Leaves A.define
-        (A.world answers.old) (A.world answers.new)
+    ensures done { A.alone state.old → OnOk result (Leaves A.define
+        (A.world state.old) (A.world state.new)
         (streams (R.remaining reader.old) (W.contents writer.old))
         (streams (R.remaining reader.new) (W.contents writer.new))) }
-    ensures alone { A.alone answers.old → OnOk result (A.alone answers.new) }
-    ensures fault { A.alone answers.old → IfErr result (λ e. EndsWithFault
-        (answers_to A.define (A.world answers.old)) e
+    ensures alone { A.alone state.old → OnOk result (A.alone state.new) }
+    ensures fault { A.alone state.old → IfErr result (λ e. EndsWithFault
+        (answers_to A.define (A.world state.old)) e
         (streams (R.remaining reader.old) (W.contents writer.old))
         (streams (R.remaining reader.new) (W.contents writer.new))) }
     ensures limits { IfErr result (λ e. MayEndBy e taken.new) }
@@ -298,9 +293,9 @@ pub fn converse<
             return Err(StreamFault::Read);
         };
         let Some(count) = piece else {
-            return conversation.finish(answers, answer, writer);
+            return conversation.finish(state, answer, writer);
         };
-        conversation.answer_piece(answers, answer, &buffer[..count], writer)?;
+        conversation.answer_piece(state, answer, &buffer[..count], writer)?;
     }
     Err(StreamFault::TooLong)
 }

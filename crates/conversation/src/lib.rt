@@ -3,11 +3,11 @@
 //! file that it saves to is written whole.
 #![tactic(auto)]
 
-pub mod answering;
+pub mod answers;
 pub mod converse;
 pub mod fault;
 pub mod limits;
 pub mod saved_file;
 pub mod source;
-pub mod streams;
 pub mod taken;
+pub mod writing;

@@ -6,7 +6,7 @@ use std::rt::Files;
 use std::{fs, io};
 
 /// The end of a new file's name, which begins with the name of the file that it replaces.
-const NEW: &str = ".towerbench-new";
+const NEW_SUFFIX: &str = ".towerbench-new";
 
 /// Writes `bytes` to the file at a path. If that is a regular file, or doesn't exist, the bytes go
 /// to a new file next to it, which then replaces it: so the path has the whole old file or the
@@ -61,7 +61,7 @@ fn replace<F: Files + AllocGlobal>(
     permissions: Option<Permissions>,
     bytes: &[u8],
 ) -> io::Result<()> {
-    let new_path = format!(in files.alloc(); "{path}{NEW}")?;
+    let new_path = format!(in files.alloc(); "{path}{NEW_SUFFIX}")?;
     // A save that a signal ended may have left one.
     let _ = fs::remove_file(files, new_path.as_str());
     let opened = OpenOptions::new()

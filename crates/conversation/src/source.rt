@@ -2,7 +2,7 @@
 
 ghost use Rattle.std.specs.Prelude.{◌≡◌, ◌<◌, ◌≤◌, IfOk, IfSome, Some, Err, length};
 ghost use Rattle.std.specs.Io.KnownBytes.{IsAtEnd};
-ghost use Rattle.conversation.specs.Sources as spec;
+ghost use Rattle.conversation.specs.SourceFaults as spec;
 
 use crate::fault::StreamFault;
 use std::alloc::Global;
@@ -11,7 +11,7 @@ use std::rt::Files;
 use std::{fmt, fs};
 use thiserror::Error;
 
-/// The most bytes that one read takes.
+/// The most bytes of a file that one read takes.
 const PIECE_BYTES: usize = 4096;
 
 /// Why the bytes of a file can't be read.

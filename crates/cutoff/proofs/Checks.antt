@@ -8,16 +8,15 @@ use Rattle.schedule_trie.specs.Forest.{step_of}
 use Rattle.schedule_trie.specs.Trie.{TrieOf, SegmentOf, segment, segment_at, slots_of, note_of, with_note, keys_in, has, Linked, IsNoted, IsCut}
 use Rattle.schedule_trie.specs.Climbs.{keys_up_to}
 use Rattle.schedule_trie.proofs.lists.KeyPositions.{parting}
-use Rattle.schedule_trie.proofs.lists.NoRepeats.{has-in}
 use Rattle.schedule_trie.proofs.branches.Shared.{same_front}
-use Rattle.cutoff.specs.Fitting.{StoredRun, RunFits, KeepsRuns, IsChecked, IsOnWayTo, checked_segment, run_of, run_at, slots_at, steps_at}
+use Rattle.cutoff.specs.Fitting.{StoredRun, RunFits, KeepsRuns, IsChecked, IsOnWayTo, checked_segment, bare_run, run_at, slots_at, steps_at}
 use Rattle.cutoff.specs.Links.{IsGiven, IsStored, IsStoredIn, IsLinked, run_checked}
-use Rattle.cutoff.specs.Prefixes.{HasTrueRun, RunsDown, RunsTo, IsMarked, AreFresh, exit_or_start, exit_or}
+use Rattle.cutoff.specs.Prefixes.{HasTrueRun, RunsDown, RunsTo, RunsToOnAll, AreFresh, exit_or_start, exit_or}
 use Rattle.cutoff.specs.Charts.{Charted, IsCharted, StepsFit}
-use Rattle.cutoff.proofs.Fits.{register_kept, exit_same, stored_at}
+use Rattle.cutoff.proofs.Fits.{register_kept, exit_same, stored-from_stored_in}
 use Rattle.cutoff.proofs.Prefixes.{down_after}
 use Rattle.cutoff.proofs.SameBranches.{cut_kept}
-use Rattle.cutoff.proofs.Walks.{by_key}
+use Rattle.cutoff.proofs.Keys.{by_key}
 
 -- `checked_segment` changes neither the cells nor the run of a segment, and keeps `IsStoredIn`
 module _ {R P : Type 0} (number : Option ℕ) where
@@ -29,11 +28,11 @@ module _ {R P : Type 0} (number : Option ℕ) where
   cells_checked None = refl
   cells_checked (Some p) = refl
 
-  run_checked_same : (o : Option (SegmentOf (StoredRun R P))) → option_map run_of (note_of (option_map (checked_segment number) o)) ≡ option_map run_of (note_of o)
+  run_checked_same : (o : Option (SegmentOf (StoredRun R P))) → option_map bare_run (note_of (option_map (checked_segment number) o)) ≡ option_map bare_run (note_of o)
   run_checked_same None = refl
   run_checked_same (Some p) = by p.note
     where
-      by : (n : Option (StoredRun R P)) → option_map run_of (option_map (λ s. record { run = s.run; id = s.id; link = s.link; checked = number }) n) ≡ option_map run_of n
+      by : (n : Option (StoredRun R P)) → option_map bare_run (option_map (λ s. record { run = s.run; id = s.id; link = s.link; checked = number }) n) ≡ option_map bare_run n
       by None = refl
       by (Some s) = refl
 
@@ -75,8 +74,8 @@ module _ {R P : Type 0} (old new : TrieOf (StoredRun R P)) (number : Option ℕ)
     where
       by : (segment_at new.segments k ≡ segment_at old.segments k) ⊎ (IsOnWayTo old key k × (segment_at new.segments k ≡ option_map (checked_segment number) (segment_at old.segments k)))
           → run_at new k ≡ run_at old k
-      by (inl e) = ap (λ o. option_map run_of (note_of o)) e
-      by (inr e) = ap (λ o. option_map run_of (note_of o)) e.1 ∙ run_checked_same number (segment_at old.segments k)
+      by (inl e) = ap (λ o. option_map bare_run (note_of o)) e
+      by (inr e) = ap (λ o. option_map bare_run (note_of o)) e.1 ∙ run_checked_same number (segment_at old.segments k)
 
   checked_keeps : KeepsRuns old new (λ k. ⊥)
   checked_keeps = record { branches = checked.branches; limits = checked.limits; forest_kept = checked.unchanged; slots = slots_same; runs = λ k. inl (run_same k) }
@@ -108,7 +107,7 @@ module _ {R P : Type 0} (old new : TrieOf (StoredRun R P)) (number : Option ℕ)
           fits = subst (λ s. RunFits E c s h.stored.run) (steps_same k) h.fits;
         }
 
-    marked_still : (start : Configuration R P) (k : ℕ) → IsMarked E is old start (Some k) → IsMarked E is new start (Some k)
+    marked_still : (start : Configuration R P) (k : ℕ) → RunsToOnAll E is old start (Some k) → RunsToOnAll E is new start (Some k)
     marked_still start k marked = λ i h.
         let there : has k (keys_in old.branches i) ≡ true = subst (λ ss. has k (keys_in ss i) ≡ true) checked.branches h in
         let down = down_after E is old new steps_same true_same (is start.register) start (keys_up_to k (keys_in old.branches i)) (exit_or_start old start (Some k)) (marked i there) in
@@ -120,13 +119,13 @@ module _ {R P : Type 0} (E : R → R → Bool) (is : R → Behaviour P) (alike :
   down_part : (c : Configuration R P) (front : List ℕ) (k : ℕ) (back : List ℕ) (end : Configuration R P) → is c.register ≡ is start.register
       → RunsDown E is trie (is start.register) c (front ++ k ∷ back) end → RunsDown E is trie (is start.register) c (front ++ k ∷ []) (exit_or_start trie start (Some k))
   down_part c [] k back end home d =
-      let come : exit_or_start trie start (Some k) ≡ d.0.stored.run.exit = ap (λ n. exit_or start (option_map run_of n)) d.0.noted in
+      let come : exit_or_start trie start (Some k) ≡ d.0.stored.run.exit = ap (λ n. exit_or start (option_map bare_run n)) d.0.noted in
       subst (RunsDown E is trie (is start.register) c (k ∷ [])) (sym come)
       (d.0, exit_same E is alike (is start.register) c (steps_at trie k) d.0.stored.run home d.0.true_run d.0.fits)
   down_part c (j ∷ front) k back end home d =
       (d.0, down_part (replayed (is start.register) c (steps_at trie j)) front k back end (ap is (register_kept (is start.register) c (steps_at trie j)) ∙ home) d.1)
 
-  marked_on_way : IsCut trie → (key k : ℕ) → IsSome (segment_at trie.segments key) → IsMarked E is trie start (Some key) → IsOnWayTo trie key k → IsMarked E is trie start (Some k)
+  marked_on_way : IsCut trie → (key k : ℕ) → IsSome (segment_at trie.segments key) → RunsToOnAll E is trie start (Some key) → IsOnWayTo trie key k → RunsToOnAll E is trie start (Some k)
   marked_on_way whole key k there marked way = λ i h.
       let live = whole.live key there in
       let keys = keys_in trie.branches live.0 in
@@ -150,13 +149,13 @@ module _ {R P : Type 0} (E : R → R → Bool) (is : R → Behaviour P) (alike :
   noted_there None e = cc
   noted_there (Some p) e = refl
 
-  fresh_still : IsCut c.trie → IsMarked E is c.trie c.start (Some key) → (fresh : Option ℕ) → AreFresh E is c.trie c.start fresh → AreFresh E is new c.start fresh
+  fresh_still : IsCut c.trie → RunsToOnAll E is c.trie c.start (Some key) → (fresh : Option ℕ) → AreFresh E is c.trie c.start fresh → AreFresh E is new c.start fresh
   fresh_still whole marked None f = tt
   fresh_still whole marked (Some first) f = λ k a number late. by k a number late (checked.each k)
     where
       by : (k a : ℕ) → run_checked (note_of (segment_at new.segments k)) ≡ Some a → first ≤ a
           → (segment_at new.segments k ≡ segment_at c.trie.segments k) ⊎ (IsOnWayTo c.trie key k × (segment_at new.segments k ≡ option_map (checked_segment s.checked) (segment_at c.trie.segments k)))
-          → IsMarked E is new c.start (Some k)
+          → RunsToOnAll E is new c.start (Some k)
       by k a number late (inl e) = marked_still c.trie new s.checked key checked E is c.start k (f k a (ap (λ o. run_checked (note_of o)) (sym e) ∙ number) late)
       by k a number late (inr e) =
           marked_still c.trie new s.checked key checked E is c.start k (marked_on_way E is alike c.trie c.start whole key k (noted_there (segment_at c.trie.segments key) noted) marked e.0)
@@ -168,7 +167,7 @@ module _ {R P : Type 0} (E : R → R → Bool) (is : R → Behaviour P) (alike :
     fits = subst (StepsFit (is c.start.register)) (sym checked.unchanged) was.fits;
     cut = cut_kept c.trie new (λ k. ⊥) (checked_keeps c.trie new s.checked key checked) was.cut;
     linked = linked_checked c.trie new s.checked key checked E c.start.register next _ was.linked
-        (stored_at E c.start.register was.linked.exits c.trie key s (was.linked.each key) noted).checked;
+        (stored-from_stored_in E c.start.register was.linked.exits c.trie key s (was.linked.each key) noted).checked;
     marked = marked_still c.trie new s.checked key checked E is c.start key was.marked;
     fresh_marked = fresh_still was.cut was.marked fresh was.fresh_marked;
   }
@@ -218,7 +217,3 @@ module _ {R P : Type 0} where
             → (segment_at new.segments j ≡ segment_at old.segments j) ⊎ (IsOnWayTo old key j × (segment_at new.segments j ≡ option_map (checked_segment number) (segment_at old.segments j)))
         still j same (inl e) = inl (same ∙ e)
         still j same (inr e) = inr (e.0, same ∙ e.1)
-
--- a key of a path is among the path's keys down to that key
-pub up_to_itself : (keys : List ℕ) (k : ℕ) → has k keys ≡ true → has k (keys_up_to k keys) ≡ true
-up_to_itself keys k h = let p = parting keys k h in ap (has k) p.to ∙ has-in k p.front []

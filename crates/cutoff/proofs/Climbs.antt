@@ -1,5 +1,5 @@
 -- Stored runs that lead to a configuration, climbed from below.
-use Rattle.std.proofs.Common.{◌≡◌, ℕ, ◌+◌, ◌<◌, ◌≤◌, arith, length, Bool, true, false, ◌||◌, nat_eq, List, [], ◌∷◌, ◌++◌, Option, Some, None, slice_get, inl, inr, refl, sym, ap, subst, ◌∙◌, true≢false, eq-eqb}
+use Rattle.std.proofs.Common.{◌≡◌, ℕ, ◌+◌, ◌<◌, ◌≤◌, arith, length, Bool, true, false, List, [], ◌∷◌, ◌++◌, Option, Some, None, slice_get, inl, inr, refl, sym, ap, subst, ◌∙◌}
 use Rattle.std.specs.Prelude.{⊤}
 use Rattle.std.specs.Cmp.{IsPartialEquivalence}
 use Rattle.std.specs.Option.{IfSome}
@@ -7,28 +7,20 @@ use Rattle.frames.specs.declared.types.Step.{Step}
 use Rattle.frames.specs.Behaviour.{Behaviour}
 use Rattle.frames.specs.Configuration.{Configuration, replayed}
 use Rattle.frames.specs.Equality.{SameConfiguration}
+use Rattle.frames.specs.Recorded.{without_register}
 use Rattle.checkpoints.specs.Segment.{SegmentRun, IsRun}
 use Rattle.std.proofs.lemmas.List.{length-append}
 use Rattle.schedule_trie.specs.Trie.{TrieOf, segment_at, note_of, keys_in, has, Once, IsCut}
-use Rattle.schedule_trie.specs.Climbs.{keys_up_to, keys_to, last_of, HasClimbedTo}
+use Rattle.schedule_trie.specs.Climbs.{keys_up_to, keys_to, HasClimbedTo}
 use Rattle.schedule_trie.proofs.climbs.Climbs.{IsStepUp, step_up}
-use Rattle.schedule_trie.proofs.lists.NoRepeats.{Once-from_linked, once_before}
+use Rattle.schedule_trie.proofs.lists.NoRepeats.{once_before}
 use Rattle.schedule_trie.proofs.lists.KeyPositions.{parting}
 use Rattle.cutoff.specs.Fitting.{StoredRun, steps_at}
-use Rattle.cutoff.specs.Links.{without_register, run_number, IsExitOf, IsStored, IsLinked}
+use Rattle.cutoff.specs.Links.{run_number, IsExitOf, IsStored, IsLinked}
 use Rattle.cutoff.specs.Plans.{FitsDownTo, FitsDown}
-use Rattle.cutoff.specs.Prefixes.{note_named}
-use Rattle.cutoff.proofs.Fits.{without_register_same, stored_at, register_kept, same_symm, same_trans, same_with_register, exit_same, fits_from_note, no_note_no_fit}
-
-not_first : (key k : ℕ) (ks : List ℕ) → has key (k ∷ ks) ≡ false → key ≡ k → ⊥
-not_first key k ks h e = true≢false (sym (ap (λ x. x || has key ks) (eq-eqb key k e)) ∙ h)
-
-not_below : (key k : ℕ) (ks : List ℕ) → has key (k ∷ ks) ≡ false → has key ks ≡ false
-not_below key k ks h = by (nat_eq key k) refl
-  where
-    by : (b : Bool) → nat_eq key k ≡ b → has key ks ≡ false
-    by true e = absurd (true≢false (sym (ap (λ x. x || has key ks) e) ∙ h))
-    by false e = sym (ap (λ x. x || has key ks) e) ∙ h
+use Rattle.cutoff.specs.Prefixes.{note_if_any, IsAbove}
+use Rattle.cutoff.proofs.Fits.{without_register_same, stored-from_stored_in, register_kept, same_symm, same_trans, same_with_register, exit_same, run_fits_from_fits, no_note_no_fit}
+use Rattle.cutoff.proofs.Keys.{lacks_cons, path_once}
 
 -- a run with the steps of the segment `key` fits it just if the runs above lead to the run's entry
 module _ {R P : Type 0} (E : R → R → Bool) (b : Behaviour P) (trie : TrieOf (StoredRun R P)) (key : ℕ) (run : SegmentRun R P) where
@@ -36,16 +28,16 @@ module _ {R P : Type 0} (E : R → R → Bool) (b : Behaviour P) (trie : TrieOf 
       → (run.steps ≡ steps_at trie key) × FitsDownTo E b trie c front run.entry
   down_parts c [] back lacks (inl f) = (f.1.steps, f.1.entry)
   down_parts c [] back lacks (inr f) = absurd (f.0 refl)
-  down_parts c (k ∷ front) back lacks (inl f) = absurd (not_first key k front lacks f.0)
+  down_parts c (k ∷ front) back lacks (inl f) = absurd ((lacks_cons key k front lacks).0 f.0)
   down_parts c (k ∷ front) back lacks (inr f) =
-      let rest = down_parts (replayed b c (steps_at trie k)) front back (not_below key k front lacks) f.2 in
+      let rest = down_parts (replayed b c (steps_at trie k)) front back (lacks_cons key k front lacks).1 f.2 in
       (rest.0, (f.1, rest.1))
 
   pub down_whole : (c : Configuration R P) (front back : List ℕ) → has key front ≡ false → run.steps ≡ steps_at trie key → FitsDownTo E b trie c front run.entry
       → FitsDown E b trie key run c (front ++ key ∷ back)
   down_whole c [] back lacks steps down = inl (refl, record { steps = steps; entry = down })
   down_whole c (k ∷ front) back lacks steps down =
-      inr (not_first key k front lacks, down.0, down_whole (replayed b c (steps_at trie k)) front back (not_below key k front lacks) steps down.1)
+      inr ((lacks_cons key k front lacks).0, down.0, down_whole (replayed b c (steps_at trie k)) front back (lacks_cons key k front lacks).1 steps down.1)
 
 -- if no run is stored at the last of these keys, stored runs don't fit all of them
 down_missing : {R P : Type 0} (E : R → R → Bool) (b : Behaviour P) (trie : TrieOf (StoredRun R P)) (k : ℕ) (entry c : Configuration R P) (front : List ℕ)
@@ -67,7 +59,7 @@ module _ {R P : Type 0} (E : R → R → Bool) (per : IsPartialEquivalence E) (i
   pub down_before : (c : Configuration R P) (front : List ℕ) → is c.register ≡ b → FitsDownTo E b trie c (front ++ k ∷ []) entry
       → SameConfiguration E entry s.run.exit × FitsDownTo E b trie c front s.run.entry
   down_before c [] home d =
-      let fits = fits_from_note E trie c k s noted d.0 in
+      let fits = run_fits_from_fits E trie c k s noted d.0 in
       let exit = exit_same E is alike b c (steps_at trie k) s.run home true_run fits in
       (same_trans E per entry (replayed b c (steps_at trie k)) s.run.exit d.1 (same_symm E per s.run.exit (replayed b c (steps_at trie k)) exit), fits.entry)
   down_before c (j ∷ front) home d =
@@ -111,15 +103,6 @@ module _ {R P : Type 0} (E : R → R → Bool) (per : IsPartialEquivalence E) (i
     climb_above d =
         (down_before E per is alike b trie k s noted true_run entry start (keys_to keys above) refl (subst (λ l. FitsDownTo E b trie start l entry) step.is d)).1
 
--- no key is twice on a branch
-pub path_once : {T : Type 0} (trie : TrieOf T) → IsCut trie → (i : ℕ) → Once (keys_in trie.branches i)
-path_once trie whole i = Once-from_linked whole.shares.above (keys_in trie.branches i) (whole.shares.linked i)
-
--- in a list without repeats, a key isn't among those after it
-pub once_after : (front : List ℕ) (key : ℕ) (back : List ℕ) → Once (front ++ key ∷ back) → has key back ≡ false
-once_after [] key back o = o.0
-once_after (k ∷ front) key back o = once_after front key back o.1
-
 -- the keys down to one of a branch's keys are at most as many as all its keys
 pub keys_to_few : (keys : List ℕ) (last : Option ℕ) → HasClimbedTo keys last → length (keys_to keys last) ≤ length keys
 keys_to_few keys None h = omega arith
@@ -155,7 +138,7 @@ step_up_shorter keys k above step = ap length step.is ∙ length-append (keys_to
 -- `above` is the key right above `key`: what runs down to `above` say of a run at `key`
 module _ {R P : Type 0} (E : R → R → Bool) (per : IsPartialEquivalence E) (is : R → Behaviour P) (alike : (x y : R) → E x y ≡ true → is x ≡ is y)
     (trie : TrieOf (StoredRun R P)) (whole : IsCut trie) (start : Configuration R P) (key : ℕ) (above : Option ℕ)
-    (each : (i : ℕ) (front back : List ℕ) → keys_in trie.branches i ≡ front ++ key ∷ back → above ≡ last_of front) where
+    (each : IsAbove trie key above) where
   pub above_step : (i : ℕ) → has key (keys_in trie.branches i) ≡ true → IsStepUp (keys_in trie.branches i) key above
   above_step i h = step_up (keys_in trie.branches i) key above (path_once trie whole i) h (λ front back e. each i front back e)
 
@@ -177,17 +160,10 @@ module _ {R P : Type 0} (E : R → R → Bool) (per : IsPartialEquivalence E) (i
       down_parts E (is start.register) trie key run start (keys_to (keys_in trie.branches i) above) step.back (lacks_above i step)
       (subst (FitsDown E (is start.register) trie key run start) step.parts fits)
 
--- a run that fits the segment `key` has that segment's steps
-pub down_steps : {R P : Type 0} (E : R → R → Bool) (b : Behaviour P) (trie : TrieOf (StoredRun R P)) (key : ℕ) (run : SegmentRun R P) (c : Configuration R P) (keys : List ℕ)
-    → FitsDown E b trie key run c keys → run.steps ≡ steps_at trie key
-down_steps E b trie key run c [] f = absurd f
-down_steps E b trie key run c (k ∷ ks) (inl f) = f.1.steps ∙ ap (steps_at trie) (sym f.0)
-down_steps E b trie key run c (k ∷ ks) (inr f) = down_steps E b trie key run (replayed b c (steps_at trie k)) ks f.2
-
 -- the run stored at `above` ends at `entry`, so that run's number is that of a run with this exit
 pub number_linked : {R P : Type 0} (E : R → R → Bool) (per : IsPartialEquivalence E) (is : R → Behaviour P) (alike : (x y : R) → E x y ≡ true → is x ≡ is y)
     (trie : TrieOf (StoredRun R P)) (start entry : Configuration R P) (keys : List ℕ) (above : Option ℕ) (next : ℕ) (o : Option (StoredRun R P)) → HasClimbedTo keys above
-    → note_named trie above ≡ o → IfSome o (λ s. IsRun (is s.run.entry.register) s.run)
+    → note_if_any trie above ≡ o → IfSome o (λ s. IsRun (is s.run.entry.register) s.run)
     → FitsDownTo E (is start.register) trie start (keys_to keys above) entry → IsLinked E start.register next None (without_register start) trie
     → IsLinked E start.register next (run_number o) (without_register entry) trie
 number_linked E per is alike trie start entry keys above next None h e true_run d l = record { exits = l.exits; as_many = l.as_many; each = l.each; reached_exit = tt }
@@ -198,5 +174,5 @@ number_linked E per is alike trie start entry keys (Some k) next (Some s) h e tr
       exits = l.exits;
       as_many = l.as_many;
       each = l.each;
-      reached_exit = subst (IsExitOf l.exits s.id) (sym (without_register_same E entry s.run.exit same)) (stored_at E start.register l.exits trie k s (l.each k) e).id;
+      reached_exit = subst (IsExitOf l.exits s.id) (sym (without_register_same E entry s.run.exit same)) (stored-from_stored_in E start.register l.exits trie k s (l.each k) e).id;
     }

@@ -8,7 +8,7 @@ use Rattle.schedule_trie.specs.Forest.{step_of}
 use Rattle.schedule_trie.specs.Trie.{TrieOf, segment_at, slots_of, note_of}
 use Rattle.schedule_trie.proofs.lists.NoRepeats.{has-head, has-tail}
 use Rattle.checkpoints.specs.Segment.{SegmentRun}
-use Rattle.cutoff.specs.Fitting.{StoredRun, RunPart, RunFits, Fits, run_of, steps_at}
+use Rattle.cutoff.specs.Fitting.{StoredRun, RunPart, RunFits, Fits, bare_run, steps_at}
 use Rattle.cutoff.specs.Settles.{ReplaysIfNeeded, Settles}
 use Rattle.cutoff.specs.EarlyCutoff.{AreKept, AreFitted, replayed_through, StopsEarly}
 
@@ -19,7 +19,7 @@ module _ {R P : Type 0} (E : R → R → Bool) (b : Behaviour P) where
   fitted_still was old c (k ∷ ks) kept f =
       let here : segment_at old.segments k ≡ segment_at was.segments k = kept k (has-head k ks) in
       let steps : steps_at was k ≡ steps_at old k = ap (λ o. map step_of (slots_of o)) (sym here) in (
-        subst (λ o. MatchOption (option_map run_of (note_of o)) ⊥ (RunFits E c (map step_of (slots_of o)))) (sym here) f.0,
+        subst (λ o. MatchOption (option_map bare_run (note_of o)) ⊥ (RunFits E c (map step_of (slots_of o)))) (sym here) f.0,
         fitted_still was old (replayed b c (steps_at old k)) ks (λ j h. kept j (has-tail j k ks h))
             (subst (λ l. AreFitted b was E (replayed b c l) ks) steps f.1),
       )

@@ -1,18 +1,18 @@
 -- A chart after an edit.
 use Rattle.std.proofs.Common.{◌≡◌, ℕ, Bool, Option, None, Result, Ok, Err, OnOk, IfErr, refl, sym, subst}
 use Rattle.frames.specs.Behaviour.{Behaviour}
+use Rattle.frames.specs.Recorded.{without_register}
 use Rattle.schedule_trie.specs.declared.limits.Limits.{Limits}
 use Rattle.schedule_trie.specs.declared.refusal.Refusal.{Refusal}
 use Rattle.schedule_trie.specs.Forest.{Forest}
 use Rattle.schedule_trie.specs.Trie.{TrieOf, forest, KeepsNotes}
 use Rattle.schedule_trie.specs.Edits.{Edit, Insert, Remove, Replace, Fork, Detach, Drop, edited, KeepsNotesBy, IsEdited, IsUnedited}
 use Rattle.cutoff.specs.Fitting.{StoredRun}
-use Rattle.cutoff.specs.Links.{without_register}
 use Rattle.cutoff.specs.Charts.{Charted, IsCharted, StepsFit}
 use Rattle.cutoff.specs.Edits.{Edits, FitsEdit}
-use Rattle.cutoff.proofs.Commands.{insert_fits, remove_fits, fork_fits, detach_fits, drop_fits}
-use Rattle.cutoff.proofs.Edits.{replace_fits, linked_kept}
+use Rattle.cutoff.proofs.FittingSteps.{insert_fits, remove_fits, fork_fits, detach_fits, drop_fits, replace_fits}
 use Rattle.cutoff.proofs.SameBranches.{charted_marked}
+use Rattle.cutoff.proofs.Links.{linked_kept}
 
 edited_fits : {P : Type 0} (b : Behaviour P) (limits : Limits) (f g : Forest) (edit : Edit) → FitsEdit b edit → StepsFit b f → edited limits f edit ≡ Ok g → StepsFit b g
 edited_fits b limits f g (Insert name place step) new fits e = insert_fits b limits f g name place step new fits e

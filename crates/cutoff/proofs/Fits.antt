@@ -7,11 +7,12 @@ use Rattle.frames.specs.declared.types.Step.{Step}
 use Rattle.frames.specs.Behaviour.{Behaviour}
 use Rattle.frames.specs.Configuration.{Configuration, stepped, replayed}
 use Rattle.frames.specs.Equality.{SameConfiguration}
+use Rattle.frames.specs.Recorded.{without_register}
 use Rattle.checkpoints.specs.Segment.{SegmentRun, IsRun}
 use Rattle.schedule_trie.specs.Forest.{step_of}
 use Rattle.schedule_trie.specs.Trie.{TrieOf, SegmentOf, segment_at, slots_of, note_of}
-use Rattle.cutoff.specs.Fitting.{StoredRun, run_of, RunFits, Fits, steps_at, run_at}
-use Rattle.cutoff.specs.Links.{without_register, IsStored, IsStoredIn}
+use Rattle.cutoff.specs.Fitting.{StoredRun, bare_run, RunFits, Fits, steps_at, run_at}
+use Rattle.cutoff.specs.Links.{IsStored, IsStoredIn}
 
 -- a replay keeps the register
 pub register_kept : {R P : Type 0} (b : Behaviour P) (c : Configuration R P) (steps : List Step) → (replayed b c steps).register ≡ c.register
@@ -68,21 +69,21 @@ module _ {R P : Type 0} (E : R → R → Bool) where
 
   -- if `IsStoredIn` holds of the segment k, `IsStored` holds of the run stored there
   module _ (h : R) (exits : List (Configuration ⊤ P)) (trie : TrieOf (StoredRun R P)) (k : ℕ) (s : StoredRun R P) where
-    pub stored_at : IsStoredIn E h exits (segment_at trie.segments k) → note_of (segment_at trie.segments k) ≡ Some s → IsStored E h exits (steps_at trie k) s
-    stored_at = by (segment_at trie.segments k)
+    pub stored-from_stored_in : IsStoredIn E h exits (segment_at trie.segments k) → note_of (segment_at trie.segments k) ≡ Some s → IsStored E h exits (steps_at trie k) s
+    stored-from_stored_in = by (segment_at trie.segments k)
       where
         by : (o : Option (SegmentOf (StoredRun R P))) → IsStoredIn E h exits o → note_of o ≡ Some s → IsStored E h exits (map step_of (slots_of o)) s
         by None t e = cc
         by (Some p) t e = subst (λ n. MatchOption n ⊤ (IsStored E h exits (map step_of p.slots))) e t
 
   -- the run s, which is stored at the key k, fits just if `Fits` holds of k
-  pub fits_from_note : (trie : TrieOf (StoredRun R P)) (c : Configuration R P) (k : ℕ) (s : StoredRun R P) → note_of (segment_at trie.segments k) ≡ Some s
+  pub run_fits_from_fits : (trie : TrieOf (StoredRun R P)) (c : Configuration R P) (k : ℕ) (s : StoredRun R P) → note_of (segment_at trie.segments k) ≡ Some s
       → Fits E trie c k → RunFits E c (steps_at trie k) s.run
-  fits_from_note trie c k s e f = subst (λ n. MatchOption (option_map run_of n) ⊥ (RunFits E c (steps_at trie k))) e f
+  run_fits_from_fits trie c k s e f = subst (λ n. MatchOption (option_map bare_run n) ⊥ (RunFits E c (steps_at trie k))) e f
 
-  pub fits_to_note : (trie : TrieOf (StoredRun R P)) (c : Configuration R P) (k : ℕ) (s : StoredRun R P) → note_of (segment_at trie.segments k) ≡ Some s
+  pub fits_from_run_fits : (trie : TrieOf (StoredRun R P)) (c : Configuration R P) (k : ℕ) (s : StoredRun R P) → note_of (segment_at trie.segments k) ≡ Some s
       → RunFits E c (steps_at trie k) s.run → Fits E trie c k
-  fits_to_note trie c k s e f = subst (λ n. MatchOption (option_map run_of n) ⊥ (RunFits E c (steps_at trie k))) (sym e) f
+  fits_from_run_fits trie c k s e f = subst (λ n. MatchOption (option_map bare_run n) ⊥ (RunFits E c (steps_at trie k))) (sym e) f
 
   pub no_note_no_fit : (trie : TrieOf (StoredRun R P)) (c : Configuration R P) (k : ℕ) → note_of (segment_at trie.segments k) ≡ None → Fits E trie c k → ⊥
-  no_note_no_fit trie c k e f = subst (λ n. MatchOption (option_map run_of n) ⊥ (RunFits E c (steps_at trie k))) e f
+  no_note_no_fit trie c k e f = subst (λ n. MatchOption (option_map bare_run n) ⊥ (RunFits E c (steps_at trie k))) e f

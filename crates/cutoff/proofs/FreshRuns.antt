@@ -1,5 +1,5 @@
 -- Segments that stored runs are known to fit down to, after a run is stored.
-use Rattle.std.proofs.Common.{◌≡◌, ℕ, drop, get_or, ◌<◌, ◌≤◌, length, arith, Bool, true, false, ◌||◌, List, [], ◌∷◌, ◌++◌, map, Option, Some, None, ◌⊎◌, inl, inr, refl, sym, ap, subst, ◌∙◌, append_assoc, true≢false}
+use Rattle.std.proofs.Common.{◌≡◌, ℕ, drop, get_or, ◌<◌, ◌≤◌, length, arith, Bool, true, false, List, [], ◌∷◌, ◌++◌, map, Option, Some, None, ◌⊎◌, inl, inr, refl, sym, ap, subst, ◌∙◌, append_assoc, true≢false}
 use Rattle.std.specs.Prelude.{⊤}
 use Rattle.std.specs.Option.{option_map, option_or}
 use Rattle.std.specs.Cmp.{IsPartialEquivalence, IsEquivalence}
@@ -11,21 +11,18 @@ use Rattle.schedule_trie.specs.Climbs.{keys_up_to}
 use Rattle.checkpoints.specs.Segment.{IsRun}
 use Rattle.schedule_trie.proofs.branches.Shared.{same_front}
 use Rattle.schedule_trie.proofs.climbs.Climbs.{up_to-here}
-use Rattle.schedule_trie.proofs.lists.NoRepeats.{has-append, has_not_from, has-in}
+use Rattle.schedule_trie.proofs.lists.NoRepeats.{has-in}
 use Rattle.schedule_trie.proofs.lists.KeyPositions.{parting, IsParting}
-use Rattle.cutoff.specs.Fitting.{StoredRun, run_of, steps_at}
+use Rattle.cutoff.specs.Fitting.{StoredRun, bare_run, steps_at}
 use Rattle.cutoff.specs.Links.{IsGiven, IsLinked, run_checked}
 use Rattle.cutoff.specs.Settles.{IsSegmentSettled}
-use Rattle.cutoff.specs.Prefixes.{RunsDown, RunsTo, IsMarked, AreFresh, note_named, exit_or_start, exit_or}
-use Rattle.cutoff.proofs.Fits.{stored_at}
-use Rattle.cutoff.proofs.Walks.{by_key}
-use Rattle.cutoff.proofs.Climbs.{path_once, once_after}
-use Rattle.cutoff.proofs.RestWalks.{IsRestWalk, rest_walk_next, reached_next, down_kept, noted_cells}
+use Rattle.cutoff.specs.Prefixes.{RunsDown, RunsTo, RunsToOnAll, AreFresh, note_if_any, exit_or_start, exit_or}
+use Rattle.cutoff.proofs.Fits.{stored-from_stored_in}
+use Rattle.cutoff.proofs.RestWalks.{IsRestWalk, rest_walk_next, reached_next}
 use Rattle.cutoff.proofs.SameBranches.{cut_kept}
-
-lacks_front : (key : ℕ) (front back : List ℕ) → has key (front ++ back) ≡ false → has key front ≡ false
-lacks_front key front back h =
-    has_not_from key front (λ e. true≢false (sym (has-append key front back ∙ ap (λ b. b || has key back) e) ∙ h))
+use Rattle.cutoff.proofs.Keys.{by_key, path_once, once_after, lacks_front}
+use Rattle.cutoff.proofs.Noted.{noted_cells}
+use Rattle.cutoff.proofs.Prefixes.{down_kept}
 
 module _ {R P : Type 0} (E : R → R → Bool) (is : R → Behaviour P) (old new : TrieOf (StoredRun R P)) (start : Configuration R P) (key : ℕ) (s : StoredRun R P) (whole : IsCut old) (noted : IsNoted old new key (Some s)) where
   abbrev b : Behaviour P
@@ -51,7 +48,7 @@ module _ {R P : Type 0} (E : R → R → Bool) (is : R → Behaviour P) (old new
         (subst (λ l. RunsDown E is old b (replayed b c l) (front ++ key ∷ back) end) (steps_kept k) was.1) to.1,
   )
 
-  down_again : (i k : ℕ) → IsMarked E is new start (Some key) → IsParting (keys_in old.branches i) k → (end : Configuration R P)
+  down_again : (i k : ℕ) → RunsToOnAll E is new start (Some key) → IsParting (keys_in old.branches i) k → (end : Configuration R P)
       → RunsDown E is old b start (keys_up_to k (keys_in old.branches i)) end → RunsDown E is new b start (keys_up_to k (keys_in old.branches i)) end
   down_again i k at_key p end down = by (has key path) refl
     where
@@ -74,11 +71,11 @@ module _ {R P : Type 0} (E : R → R → Bool) (is : R → Behaviour P) (old new
           (subst (λ l. RunsDown E is new b start l (exit_or_start new start (Some key))) up to))
 
   -- a segment stays marked, if the one whose run is new is marked
-  mark_kept : (k : ℕ) → (k ≡ key → ⊥) → IsMarked E is new start (Some key) → IsMarked E is old start (Some k) → IsMarked E is new start (Some k)
+  mark_kept : (k : ℕ) → (k ≡ key → ⊥) → RunsToOnAll E is new start (Some key) → RunsToOnAll E is old start (Some k) → RunsToOnAll E is new start (Some k)
   mark_kept k other at_key marked = λ i h.
       let there : has k (keys_in old.branches i) ≡ true = subst (λ ss. has k (keys_in ss i) ≡ true) noted.branches h in
       let end : exit_or_start old start (Some k) ≡ exit_or_start new start (Some k) =
-      ap (λ o. exit_or start (option_map run_of (note_of o))) (sym (noted.others k other)) in
+      ap (λ o. exit_or start (option_map bare_run (note_of o))) (sym (noted.others k other)) in
       subst (λ ss. RunsTo E is new start (Some k) (keys_in ss i)) (sym noted.branches)
       (subst (RunsDown E is new b start (keys_up_to k (keys_in old.branches i))) end
       (down_again i k at_key (parting (keys_in old.branches i) k there) (exit_or_start old start (Some k)) (marked i there)))
@@ -87,10 +84,10 @@ module _ {R P : Type 0} (E : R → R → Bool) (is : R → Behaviour P) (old new
   number_kept k other = ap (λ o. run_checked (note_of o)) (noted.others k other)
 
   -- after a run is stored at `key`, runs are fresh as before, if `key` is marked then
-  pub fresh_kept : (first : Option ℕ) → IsMarked E is new start (Some key) → AreFresh E is old start first → AreFresh E is new start first
+  pub fresh_kept : (first : Option ℕ) → RunsToOnAll E is new start (Some key) → AreFresh E is old start first → AreFresh E is new start first
   fresh_kept None at_key was = tt
   fresh_kept (Some first) at_key was = λ k a number late.
-      by_key k key _ (λ e. subst (λ z. IsMarked E is new start (Some z)) (sym e) at_key)
+      by_key k key _ (λ e. subst (λ z. RunsToOnAll E is new start (Some z)) (sym e) at_key)
       (λ ne. mark_kept k ne at_key (was k a (sym (number_kept k ne) ∙ number) late))
 
 -- no stored run was found to fit with a number that wasn't given yet, so if nothing is fresh,
@@ -102,18 +99,18 @@ fresh_given E is trie start h next c None None linked given was = tt
 fresh_given E is trie start h next c None (Some a) linked (inl e) was = cc
 fresh_given {R} {P} E is trie start h next c None (Some a) linked (inr e) was = λ k x number late. by k x (note_of (segment_at trie.segments k)) refl number late
   where
-    by : (k x : ℕ) (o : Option (StoredRun R P)) → note_of (segment_at trie.segments k) ≡ o → run_checked o ≡ Some x → a ≤ x → IsMarked E is trie start (Some k)
+    by : (k x : ℕ) (o : Option (StoredRun R P)) → note_of (segment_at trie.segments k) ≡ o → run_checked o ≡ Some x → a ≤ x → RunsToOnAll E is trie start (Some k)
     by k x None at number late = cc
     by k x (Some t) at number late =
         let same : a ≡ next = cc in
-        let given : x < length linked.exits = subst (IsGiven (length linked.exits)) number (stored_at E h linked.exits trie k t (linked.each k) at).checked in
+        let given : x < length linked.exits = subst (IsGiven (length linked.exits)) number (stored-from_stored_in E h linked.exits trie k t (linked.each k) at).checked in
         let many = linked.as_many in
         absurd (omega (arith, given, many, late, same))
 
 -- true runs that fit are stored down to a segment on each branch that has it, if they are on one
-pub marked_from : {R P : Type 0} (E : R → R → Bool) (is : R → Behaviour P) (trie : TrieOf (StoredRun R P)) (start : Configuration R P) (i k : ℕ) → IsCut trie
-    → (has k (keys_in trie.branches i) ≡ true) × RunsTo E is trie start (Some k) (keys_in trie.branches i) → IsMarked E is trie start (Some k)
-marked_from E is trie start i k whole down = λ j h.
+pub on_all_from_one : {R P : Type 0} (E : R → R → Bool) (is : R → Behaviour P) (trie : TrieOf (StoredRun R P)) (start : Configuration R P) (i k : ℕ) → IsCut trie
+    → (has k (keys_in trie.branches i) ≡ true) × RunsTo E is trie start (Some k) (keys_in trie.branches i) → RunsToOnAll E is trie start (Some k)
+on_all_from_one E is trie start i k whole down = λ j h.
     let p = parting (keys_in trie.branches i) k down.0 in
     let q = parting (keys_in trie.branches j) k h in
     let same : p.front ≡ q.front =
@@ -124,11 +121,11 @@ marked_from E is trie start i k whole down = λ j h.
 pub fresh_next : {R P : Type 0} (E : R → R → Bool) (equal : IsEquivalence E) (per : IsPartialEquivalence E) (is : R → Behaviour P) (alike : (x y : R) → E x y ≡ true → is x ≡ is y)
     {old trie new : TrieOf (StoredRun R P)} {start : Configuration R P} {key count : ℕ} {back : List ℕ} {place n : ℕ} {above : Option ℕ} (i : ℕ) (all : List ℕ) (index : ℕ) (more : List ℕ)
     → (g : IsRestWalk E is old trie start key count (keys_in old.branches i) (drop index all ++ more) back place n above) (h : index < length all) {o : Option (StoredRun R P)} {s : StoredRun R P} {work : ℕ}
-    → note_named trie above ≡ o → IsSegmentSettled E trie new (exit_or start (option_map run_of o)) (get_or all index 0) s work × IsRun (is s.run.entry.register) s.run → IsCut old
+    → note_if_any trie above ≡ o → IsSegmentSettled E trie new (exit_or start (option_map bare_run o)) (get_or all index 0) s work × IsRun (is s.run.entry.register) s.run → IsCut old
     → (first : Option ℕ) → AreFresh E is trie start first → AreFresh E is new start first
 fresh_next E equal per is alike {old} {trie} {new} {start} i all index more g h {s = s} above_is settled whole first was =
     let keeps = (rest_walk_next E equal per is alike all index more g h above_is settled).walk.keeps in
     let k = get_or all index 0 in
-    let marked = marked_from E is new start i k (cut_kept old new _ keeps whole)
+    let marked = on_all_from_one E is new start i k (cut_kept old new _ keeps whole)
     (subst (λ ss. (has k (keys_in ss i) ≡ true) × RunsTo E is new start (Some k) (keys_in ss i)) (sym keeps.branches) (reached_next E equal per is alike all index more g h above_is settled)) in
     fresh_kept E is trie new start k s (cut_kept old trie _ g.walk.keeps whole) settled.0.noted first marked was

@@ -4,24 +4,24 @@ use Rattle.std.specs.Option.{option_map, option_or}
 use Rattle.std.specs.Cmp.{IsPartialEquivalence}
 use Rattle.frames.specs.Behaviour.{Behaviour}
 use Rattle.frames.specs.Configuration.{Configuration, replayed}
+use Rattle.frames.specs.Recorded.{without_register}
 use Rattle.checkpoints.specs.Segment.{SegmentRun, IsRun}
 use Rattle.schedule_trie.specs.Forest.{step_of}
 use Rattle.schedule_trie.specs.Trie.{TrieOf, segment_at, note_of, keys_in, has, Once, IsCut, IsNoted}
 use Rattle.schedule_trie.proofs.lists.NoRepeats.{once_before}
 use Rattle.schedule_trie.proofs.lists.KeyPositions.{parting}
-use Rattle.cutoff.specs.Fitting.{StoredRun, KeepsRuns, run_of, steps_at, slots_at}
-use Rattle.cutoff.specs.Links.{without_register, IsLinked}
+use Rattle.cutoff.specs.Fitting.{StoredRun, KeepsRuns, bare_run, steps_at, slots_at}
+use Rattle.cutoff.specs.Links.{IsLinked}
 use Rattle.cutoff.specs.Charts.{Charted, IsCharted}
 use Rattle.cutoff.specs.Plans.{FitsDown}
-use Rattle.cutoff.specs.Prefixes.{RunsDown, RunsTo, IsMarked, RunsLeadTo, exit_or_start, exit_or}
+use Rattle.cutoff.specs.Prefixes.{RunsDown, RunsTo, RunsToOnAll, RunsLeadTo, exit_or_start, exit_or}
 use Rattle.cutoff.proofs.Fits.{register_kept}
 use Rattle.cutoff.proofs.Links.{linked_none, new_linked}
-use Rattle.cutoff.proofs.Walks.{by_key, noted_slots}
 use Rattle.cutoff.proofs.SameBranches.{charted_kept, charted_marked}
 use Rattle.cutoff.proofs.FreshRuns.{fresh_given, fresh_kept}
-use Rattle.cutoff.proofs.Climbs.{path_once}
-use Rattle.cutoff.proofs.Prefixes.{down_more}
-use Rattle.cutoff.proofs.RestWalks.{down_kept, noted_at, noted_cells}
+use Rattle.cutoff.proofs.Prefixes.{down_more, down_kept}
+use Rattle.cutoff.proofs.Keys.{by_key, path_once}
+use Rattle.cutoff.proofs.Noted.{noted_slots, noted_at, noted_cells}
 
 module _ {R P : Type 0} (E : R → R → Bool) (b : Behaviour P) where
   -- a run that fits begins with a register equal to that of c, and has its segment's steps
@@ -51,7 +51,7 @@ module _ {R P : Type 0} (E : R → R → Bool) (per : IsPartialEquivalence E) (i
   abbrev b : Behaviour P
   b = is start.register
 
-  pub mark_installed : RunsLeadTo E is old start key s.run → IsMarked E is new start (Some key)
+  pub mark_installed : RunsLeadTo E is old start key s.run → RunsToOnAll E is new start (Some key)
   mark_installed on = λ i h.
       let keys = keys_in old.branches i in
       let has_it : has key keys ≡ true = subst (λ ss. has key (keys_in ss i) ≡ true) noted.branches h in
@@ -66,7 +66,7 @@ module _ {R P : Type 0} (E : R → R → Bool) (per : IsPartialEquivalence E) (i
       let steps : s.run.steps ≡ steps_at new key =
       covers ∙ ap (map step_of) (sym (noted_cells s (segment_at old.segments key) (segment_at new.segments key) noted.here)) in
       let more = down_more E per is alike new key s here true_run steps b start g.0 refl kept in
-      let come : exit_or_start new start (Some key) ≡ s.run.exit = ap (λ n. exit_or start (option_map run_of n)) here in
+      let come : exit_or_start new start (Some key) ≡ s.run.exit = ap (λ n. exit_or start (option_map bare_run n)) here in
       let down = subst (λ l. RunsDown E is new b start l (exit_or_start new start (Some key))) (sym g.1) (subst (RunsDown E is new b start (g.0 ++ key ∷ [])) (sym come) more) in
       subst (λ ss. RunsTo E is new start (Some key) (keys_in ss i)) (sym noted.branches) down
 

@@ -1,61 +1,33 @@
--- The last run of a branch's first cells: what is left of the branch, and the result.
-use Rattle.std.proofs.Common.{◌≡◌, ◌⊎◌, ℕ, zero, suc, ◌-◌, ◌+◌, ◌<◌, ◌≤◌, Bool, true, List, [], ◌∷◌, ◌++◌, length, map, Option, Some, None, inl, inr, refl, sym, ap, subst, ◌∙◌, arith, append_assoc}
-use Rattle.std.specs.Cmp.{IsEquivalence}
+-- A settle of a branch's first cells: the place at which they end, its result, and the chart then.
+use Rattle.std.proofs.Common.{◌≡◌, ◌⊎◌, ℕ, zero, suc, ◌-◌, ◌+◌, ◌<◌, ◌≤◌, Bool, true, List, [], ◌∷◌, ◌++◌, length, map, Option, Some, None, refl, sym, ap, subst, ◌∙◌, arith}
 use Rattle.std.specs.Option.{option_map, option_or}
 use Rattle.frames.specs.Behaviour.{Behaviour}
 use Rattle.frames.specs.Configuration.{Configuration}
-use Rattle.frames.specs.Recorded.{AllFit}
-use Rattle.schedule_trie.specs.Forest.{step_of, index_of}
+use Rattle.frames.specs.Recorded.{without_register}
+use Rattle.schedule_trie.specs.Forest.{index_of}
 use Rattle.schedule_trie.specs.Trie.{TrieOf, segment_at, slots_of, line, has, keys_in, forest, SpotIsAt}
-use Rattle.schedule_trie.specs.Climbs.{keys_up_to, keys_to, HasClimbedTo}
+use Rattle.schedule_trie.specs.Climbs.{keys_up_to}
 use Rattle.schedule_trie.proofs.climbs.Climbs.{up_to-here}
-use Rattle.schedule_trie.proofs.branches.Lines.{slots_in_on}
 use Rattle.schedule_trie.proofs.lists.NoRepeats.{has-in}
 use Rattle.schedule_trie.proofs.lists.KeyPositions.{parting}
 use Rattle.cutoff.specs.Fitting.{StoredRun, RunPart, part_of_stored, reached, KeepsRuns}
 use Rattle.cutoff.specs.Settles.{Settles, IsFilled, SettlesTo, IsSettledLast, last_part}
-use Rattle.cutoff.specs.Links.{without_register, IsLinked}
-use Rattle.cutoff.specs.Prefixes.{AreFresh, RunsTo, IsKnown, AreKeysAfter, IsMarked, IsPlaceIn, IsHung, IsLeftToSettle, note_named}
-use Rattle.cutoff.specs.Charts.{Charted, IsCharted, StepsFit, keys_at, keys_named, reached_by}
+use Rattle.cutoff.specs.Links.{IsLinked}
+use Rattle.cutoff.specs.Prefixes.{AreFresh, RunsTo, RunsToOnAll, IsPlaceIn, note_if_any}
+use Rattle.cutoff.specs.Charts.{Charted, IsCharted, keys_at, keys_named, reached_by}
 use Rattle.cutoff.proofs.FreshRuns.{fresh_given}
 use Rattle.cutoff.proofs.SameBranches.{charted_kept, charted_marked}
 use Rattle.cutoff.proofs.Walks.{reached_none}
 
+-- the last part of a list that ends with p is p
 last_of_parts : {R P : Type 0} (before : List (RunPart R P)) (p : RunPart R P) → last_part (before ++ p ∷ []) ≡ Some p
 last_of_parts [] p = refl
 last_of_parts (q ∷ []) p = refl
 last_of_parts (q ∷ r ∷ before) p = last_of_parts (r ∷ before) p
 
--- what is left of each branch with `key`, if runs hang from `top` down to `key`
-module _ {R P : Type 0} (E : R → R → Bool) (equal : IsEquivalence E) (is : R → Behaviour P) (trie : TrieOf (StoredRun R P)) (start : Configuration R P) (top key : ℕ) (known fitted : Option ℕ) (left : List ℕ)
-    (hangs : (i : ℕ) → has key (keys_in trie.branches i) ≡ true → IsHung E is trie top key i) (down : IsKnown E is trie start top known) (last : Option ℕ) (below : List ℕ) (to : (i : ℕ) → has top (keys_in trie.branches i) ≡ true → HasClimbedTo (keys_in trie.branches i) last × (keys_up_to top (keys_in trie.branches i) ≡ keys_to (keys_in trie.branches i) last ++ below))
-    (following : AreKeysAfter trie last below known fitted left)
-    (fits : StepsFit (is start.register) (forest trie)) where
-  pub left_to_settle : (i count place : ℕ) → IsPlaceIn trie key count place i → IsLeftToSettle E is trie start fitted left top key count place i
-  left_to_settle i count place lies =
-      let on = hangs i lies.there in
-      let up = to i on.there in
-      let path = following.1 i up.0 in
-      record {
-        hanging = on;
-        rest = record {
-          lies = lies;
-          reached = path.0;
-          down = by following.0 on.there;
-          path = on.path ∙ ap (λ l. l ++ on.below) (up.1 ∙ path.1) ∙ append_assoc (keys_to (keys_in trie.branches i) fitted) left on.below;
-          fits = subst (λ l. AllFit (is start.register) (map step_of l)) (slots_in_on (segment_at trie.segments) trie.branches i) (fits i);
-        };
-      }
-    where
-      by : (fitted ≡ known) ⊎ (fitted ≡ None) → has top (keys_in trie.branches i) ≡ true → RunsTo E is trie start fitted (keys_in trie.branches i)
-      by (inl e) there = subst (λ o. RunsTo E is trie start o (keys_in trie.branches i)) (sym e) (down i there).1
-      by (inr e) there =
-          subst (λ o. RunsTo E is trie start o (keys_in trie.branches i)) (sym e)
-          (record { register = equal.refl start.register; memory = refl; running = refl; stopped = refl })
-
 -- the segment in which a settle ended can be marked
 pub marked_settled : {R P : Type 0} (E : R → R → Bool) (is : R → Behaviour P) (trie new : TrieOf (StoredRun R P)) (start : Configuration R P) (key count n : ℕ) → 0 < count → count ≤ length (slots_of (segment_at trie.segments key))
-    → new.branches ≡ trie.branches → ((i m place : ℕ) → IsPlaceIn trie key m place i → SettlesTo E is trie new start key m place i n) → IsMarked E is new start (Some key)
+    → new.branches ≡ trie.branches → ((i m place : ℕ) → IsPlaceIn trie key m place i → SettlesTo E is trie new start key m place i n) → RunsToOnAll E is new start (Some key)
 marked_settled E is trie new start key count n some few same settles i h =
     let there = subst (λ s. has key (keys_in s i) ≡ true) same h in
     let p = parting (keys_in trie.branches i) key there in
@@ -71,7 +43,7 @@ marked_settled E is trie new start key count n some few same settles i h =
 -- next, so runs with this number or a greater one are fresh too
 pub charted_settled : {R P : Type 0} (E : R → R → Bool) (is : R → Behaviour P) (next after : ℕ) (fresh mark id other : Option ℕ) (c : Charted R P) (new : TrieOf (StoredRun R P)) (Missed : ℕ → Type 0)
     → KeepsRuns c.trie new Missed → IsLinked E c.start.register after None (without_register c.start) new → (id ≡ None) ⊎ (id ≡ Some next)
-    → ((first : Option ℕ) → AreFresh E is c.trie c.start first → AreFresh E is new c.start first) → IsMarked E is new c.start other → IsCharted E is next fresh mark c
+    → ((first : Option ℕ) → AreFresh E is c.trie c.start first → AreFresh E is new c.start first) → RunsToOnAll E is new c.start other → IsCharted E is next fresh mark c
     → IsCharted E is after (option_or fresh id) other (record { trie = new; start = c.start; value = c.value })
 charted_settled E is next after fresh mark id other c new Missed keeps linked given kept marked was =
     charted_marked E is after None None (option_or fresh id) other (record { trie = new; start = c.start; value = c.value })
@@ -116,7 +88,7 @@ none_settled {R} {P} E b c name place none = (
 
 -- the result of a settle of the first `place` cells, which end in the segment `key`
 pub last_settled : {R P : Type 0} (E : R → R → Bool) (is : R → Behaviour P) (old new : Charted R P) (name : List ℕ) (place key count i n : ℕ) (o : Option (StoredRun R P))
-    → index_of (forest old.trie).branches name ≡ Some i → SettlesTo E is old.trie new.trie old.start key count place i n → o ≡ note_named new.trie (Some key)
+    → index_of (forest old.trie).branches name ≡ Some i → SettlesTo E is old.trie new.trie old.start key count place i n → o ≡ note_if_any new.trie (Some key)
     → IsSettledLast E (is old.start.register) old new name place (option_map (part_of_stored count) o) n
 last_settled E is old new name place key count i n o found s stored =
     let named : keys_named old.trie name ≡ keys_in old.trie.branches i = ap (λ o. keys_at o old.trie.branches) found in (

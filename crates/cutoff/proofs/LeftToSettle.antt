@@ -1,20 +1,24 @@
 -- What is left to settle of a branch: the segments down to `top`, then those whose runs hang from
 -- the run at `top`.
-use Rattle.std.proofs.Common.{◌≡◌, ℕ, suc, ◌+◌, ◌<◌, Bool, true, List, [], ◌∷◌, ◌++◌, length, drop, get_or, Option, Some, None, refl, sym, ap, subst, ◌∙◌, arith, append-nil, append_assoc}
+use Rattle.std.proofs.Common.{◌≡◌, ℕ, suc, ◌+◌, ◌<◌, Bool, true, List, [], ◌∷◌, ◌++◌, length, drop, get_or, Option, Some, None, refl, sym, ap, subst, ◌∙◌, arith, append-nil, append_assoc, map, inl, inr, ◌⊎◌}
 use Rattle.std.specs.Cmp.{IsPartialEquivalence, IsEquivalence}
 use Rattle.std.specs.Option.{option_map}
 use Rattle.std.proofs.Math.Seq.{drop-cons}
 use Rattle.std.proofs.lemmas.List.{append_cancel_left, append_cancel_right}
 use Rattle.frames.specs.Behaviour.{Behaviour}
 use Rattle.frames.specs.Configuration.{Configuration}
-use Rattle.schedule_trie.specs.Trie.{TrieOf, keys_in, has}
-use Rattle.schedule_trie.specs.Climbs.{keys_up_to, keys_to, last_from}
+use Rattle.frames.specs.Recorded.{AllFit}
+use Rattle.schedule_trie.specs.Trie.{TrieOf, keys_in, has, segment_at, forest}
+use Rattle.schedule_trie.specs.Climbs.{keys_up_to, keys_to, last_from, HasClimbedTo}
+use Rattle.schedule_trie.specs.Forest.{step_of}
 use Rattle.schedule_trie.proofs.lists.NoRepeats.{has-in, has-left}
 use Rattle.schedule_trie.proofs.limbs.OwnParts.{last_reached}
 use Rattle.schedule_trie.proofs.lists.KeyPositions.{parting}
-use Rattle.cutoff.specs.Fitting.{StoredRun, run_of, run_at}
-use Rattle.cutoff.specs.Prefixes.{HasTrueRun, RunsDown, RunsTo, Hangs, IsKnown, IsMarked, AreKeysAfter, IsHung, exit_or_start, exit_or, run_named}
+use Rattle.schedule_trie.proofs.branches.Lines.{slots_in_on}
+use Rattle.cutoff.specs.Fitting.{StoredRun, bare_run, run_at}
+use Rattle.cutoff.specs.Prefixes.{HasTrueRun, RunsDown, RunsTo, RunsHang, RunsToOnAllWith, RunsToOnAll, AreKeysAfter, IsHung, exit_or_start, exit_or, run_if_any, IsPlaceIn, IsLeftToSettle}
 use Rattle.cutoff.specs.Settles.{SettlesTo}
+use Rattle.cutoff.specs.Charts.{StepsFit}
 use Rattle.cutoff.proofs.Prefixes.{down_same, down_more}
 use Rattle.cutoff.proofs.RestWalks.{IsRestWalk, hanging_settles}
 
@@ -44,43 +48,43 @@ module _ {R P : Type 0} (E : R → R → Bool) (is : R → Behaviour P) (old tri
 
 module _ {R P : Type 0} (E : R → R → Bool) (is : R → Behaviour P) (old : TrieOf (StoredRun R P)) where
   -- of runs that hang from one another, the next one, and those after it, which hang from it
-  pub hangs_next : (c : Configuration R P) (all : List ℕ) (index : ℕ) → index < length all → Hangs E is old c (drop index all)
-      → (here : HasTrueRun E is old c (get_or all index 0)) × Hangs E is old here.stored.run.exit (drop (index + 1) all)
+  pub hangs_next : (c : Configuration R P) (all : List ℕ) (index : ℕ) → index < length all → RunsHang E is old c (drop index all)
+      → (here : HasTrueRun E is old c (get_or all index 0)) × RunsHang E is old here.stored.run.exit (drop (index + 1) all)
   hangs_next c all index h hangs =
       let step : suc index ≡ index + 1 = omega arith in
-      subst (Hangs E is old c) (drop-cons all index 0 h ∙ ap (λ j. get_or all index 0 ∷ drop j all) step) hangs
+      subst (RunsHang E is old c) (drop-cons all index 0 h ∙ ap (λ j. get_or all index 0 ∷ drop j all) step) hangs
 
 -- runs that hang are settled if the run that they hang from stays stored
 module _ {R P : Type 0} (E : R → R → Bool) (equal : IsEquivalence E) (per : IsPartialEquivalence E) (is : R → Behaviour P) (alike : (x y : R) → E x y ≡ true → is x ≡ is y)
     (old trie : TrieOf (StoredRun R P)) (start : Configuration R P) (key count i place n : ℕ) (back : List ℕ) where
   pub kept_settles : (top : ℕ) (above : Option ℕ) (h : IsHung E is old top key i) → IsRestWalk E is old trie start key count (keys_in old.branches i) h.below back place n above
-      → run_named trie above ≡ run_named old above → SettlesTo E is old trie start key count place i n
+      → run_if_any trie above ≡ run_if_any old above → SettlesTo E is old trie start key count place i n
   kept_settles top above h g kept =
       let keys = keys_in old.branches i in
       let named : above ≡ Some top = sym g.last ∙ ap (last_from None) (append_cancel_right g.done (keys_up_to top keys) h.below (sym g.path ∙ h.path)) ∙ last_reached keys (Some top) h.there in
       let came : exit_or_start old start (Some top) ≡ exit_or_start trie start above = ap (exit_or_start old start) (sym named) ∙ ap (exit_or start) (sym kept) in
-      hanging_settles E equal per is alike old trie start key count i place n h.below back above g (subst (λ c. Hangs E is old c h.below) came (h.hangs start))
+      hanging_settles E equal per is alike old trie start key count i place n h.below back above g (subst (λ c. RunsHang E is old c h.below) came (h.hangs start))
 
-  pub early_settles : (k : ℕ) (c : Configuration R P) (left : List ℕ) (here : HasTrueRun E is old c k) → Hangs E is old here.stored.run.exit left
+  pub early_settles : (k : ℕ) (c : Configuration R P) (left : List ℕ) (here : HasTrueRun E is old c k) → RunsHang E is old here.stored.run.exit left
       → IsRestWalk E is old trie start key count (keys_in old.branches i) (left ++ []) back place n (Some k) → run_at trie k ≡ run_at old k
       → SettlesTo E is old trie start key count place i n
   early_settles k c left here hangs g kept =
-      let came : here.stored.run.exit ≡ exit_or_start trie start (Some k) = sym (ap (exit_or start) (kept ∙ ap (option_map run_of) here.noted)) in
+      let came : here.stored.run.exit ≡ exit_or_start trie start (Some k) = sym (ap (exit_or start) (kept ∙ ap (option_map bare_run) here.noted)) in
       hanging_settles E equal per is alike old trie start key count i place n (left ++ []) back (Some k) g
-      (subst (λ d. Hangs E is old d (left ++ [])) came (subst (Hangs E is old here.stored.run.exit) (sym (append-nil left)) hangs))
+      (subst (λ d. RunsHang E is old d (left ++ [])) came (subst (RunsHang E is old here.stored.run.exit) (sym (append-nil left)) hangs))
 
 -- if runs fit down to a segment, so do those that hang from that segment's run
 module _ {R P : Type 0} (E : R → R → Bool) (per : IsPartialEquivalence E) (is : R → Behaviour P) (alike : (x y : R) → E x y ≡ true → is x ≡ is y) (trie : TrieOf (StoredRun R P)) (start : Configuration R P) where
-  hung_down : (keys below : List ℕ) (above : Option ℕ) → RunsDown E is trie (is start.register) start keys (exit_or_start trie start above) → Hangs E is trie (exit_or_start trie start above) below
+  hung_down : (keys below : List ℕ) (above : Option ℕ) → RunsDown E is trie (is start.register) start keys (exit_or_start trie start above) → RunsHang E is trie (exit_or_start trie start above) below
       → RunsDown E is trie (is start.register) start (keys ++ below) (exit_or_start trie start (last_from above below))
   hung_down keys [] above d h = subst (λ l. RunsDown E is trie (is start.register) start l (exit_or_start trie start above)) (sym (append-nil keys)) d
   hung_down keys (k ∷ below) above d h =
       let s = h.0.stored in
-      let came : exit_or_start trie start (Some k) ≡ s.run.exit = ap (λ n. exit_or start (option_map run_of n)) h.0.noted in
+      let came : exit_or_start trie start (Some k) ≡ s.run.exit = ap (λ n. exit_or start (option_map bare_run n)) h.0.noted in
       let entry = down_same E per is alike trie (is start.register) start keys s.run.entry (exit_or_start trie start above) h.0.fits.entry d in
       let more = down_more E per is alike trie k s h.0.noted h.0.true_run h.0.fits.steps (is start.register) start keys refl entry in
       subst (λ l. RunsDown E is trie (is start.register) start l (exit_or_start trie start (last_from (Some k) below))) (append_assoc keys (k ∷ []) below)
-      (hung_down (keys ++ k ∷ []) below (Some k) (subst (RunsDown E is trie (is start.register) start (keys ++ k ∷ [])) (sym came) more) (subst (λ c. Hangs E is trie c below) (sym came) h.1))
+      (hung_down (keys ++ k ∷ []) below (Some k) (subst (RunsDown E is trie (is start.register) start (keys ++ k ∷ [])) (sym came) more) (subst (λ c. RunsHang E is trie c below) (sym came) h.1))
 
   last_from-append : (above : Option ℕ) (keys below : List ℕ) → last_from above (keys ++ below) ≡ last_from (last_from above keys) below
   last_from-append above [] below = refl
@@ -98,5 +102,32 @@ module _ {R P : Type 0} (E : R → R → Bool) (per : IsPartialEquivalence E) (i
 
   -- if runs fit down to `top`, at which a climb ended, they fit down to `bottom`, at which it began
   pub known_bottom : (key top bottom : ℕ) → ((i : ℕ) → has key (keys_in trie.branches i) ≡ true → has bottom (keys_in trie.branches i) ≡ true)
-      → ((i : ℕ) → has key (keys_in trie.branches i) ≡ true → IsHung E is trie top bottom i) → IsMarked E is trie start (Some top) → IsKnown E is trie start key (Some bottom)
+      → ((i : ℕ) → has key (keys_in trie.branches i) ≡ true → IsHung E is trie top bottom i) → RunsToOnAll E is trie start (Some top) → RunsToOnAllWith E is trie start key (Some bottom)
   known_bottom key top bottom there hung marked = λ i h. (there i h, hung_runs top bottom i (hung i h) (there i h) (marked i (hung i h).there))
+
+-- what is left of each branch with `key`, if runs hang from `top` down to `key`
+module _ {R P : Type 0} (E : R → R → Bool) (equal : IsEquivalence E) (is : R → Behaviour P) (trie : TrieOf (StoredRun R P)) (start : Configuration R P) (top key : ℕ) (known fitted : Option ℕ) (left : List ℕ)
+    (hangs : (i : ℕ) → has key (keys_in trie.branches i) ≡ true → IsHung E is trie top key i) (down : RunsToOnAllWith E is trie start top known) (last : Option ℕ) (below : List ℕ) (to : (i : ℕ) → has top (keys_in trie.branches i) ≡ true → HasClimbedTo (keys_in trie.branches i) last × (keys_up_to top (keys_in trie.branches i) ≡ keys_to (keys_in trie.branches i) last ++ below))
+    (following : AreKeysAfter trie last below known fitted left)
+    (fits : StepsFit (is start.register) (forest trie)) where
+  pub left_to_settle : (i count place : ℕ) → IsPlaceIn trie key count place i → IsLeftToSettle E is trie start fitted left top key count place i
+  left_to_settle i count place lies =
+      let on = hangs i lies.there in
+      let up = to i on.there in
+      let path = following.1 i up.0 in
+      record {
+        hanging = on;
+        rest = record {
+          lies = lies;
+          reached = path.0;
+          down = by following.0 on.there;
+          path = on.path ∙ ap (λ l. l ++ on.below) (up.1 ∙ path.1) ∙ append_assoc (keys_to (keys_in trie.branches i) fitted) left on.below;
+          fits = subst (λ l. AllFit (is start.register) (map step_of l)) (slots_in_on (segment_at trie.segments) trie.branches i) (fits i);
+        };
+      }
+    where
+      by : (fitted ≡ known) ⊎ (fitted ≡ None) → has top (keys_in trie.branches i) ≡ true → RunsTo E is trie start fitted (keys_in trie.branches i)
+      by (inl e) there = subst (λ o. RunsTo E is trie start o (keys_in trie.branches i)) (sym e) (down i there).1
+      by (inr e) there =
+          subst (λ o. RunsTo E is trie start o (keys_in trie.branches i)) (sym e)
+          (record { register = equal.refl start.register; memory = refl; running = refl; stopped = refl })

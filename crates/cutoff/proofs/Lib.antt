@@ -1,9 +1,15 @@
-pub mod Edits
+pub mod Lists
+pub mod Keys
+pub mod Noted
 pub mod Fits
 pub mod Links
+pub mod FittingSteps
+pub mod NewCharts
 pub mod Segments
 pub mod Walks
 pub mod SameBranches
+pub mod NamedBranches
+pub mod Refusals
 pub mod Climbs
 pub mod Parts
 pub mod Paths
@@ -17,7 +23,6 @@ pub mod Installed
 pub mod Checks
 pub mod Plans
 pub mod Sights
-pub mod Commands
 pub mod Edited
 pub mod Marks
 pub mod LimbFits

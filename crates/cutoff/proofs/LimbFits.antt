@@ -8,31 +8,30 @@ use Rattle.schedule_trie.specs.declared.limits.Limits.{Limits}
 use Rattle.schedule_trie.specs.declared.refusal.Refusal.TheVariants.{Full, TooManyBranches}
 use Rattle.schedule_trie.specs.declared.slot.Slot.{Slot}
 use Rattle.schedule_trie.specs.Forest.{Forest, Branch, branch, numbered, slots_in}
-use Rattle.schedule_trie.specs.Limbs.{own_cell_count, forest_of, grow, grown, limb_of, limbs, limbs_after, loaded, no_branches, shared_with, slots_on}
+use Rattle.schedule_trie.specs.Limbs.{own_cell_count, forest_of, with_limbs, with_limb, limb_of, limbs, limbs_after, loaded, no_branches, shared_with, slots_on}
 use Rattle.cutoff.specs.Charts.{LimbsFit, StepsFit}
-use Rattle.cutoff.proofs.Commands.{fits_both, fits_one_more, fits_tail, fits_take, none_fit, result_if_ok}
-use Rattle.cutoff.proofs.Edits.{FitAll}
+use Rattle.cutoff.proofs.FittingSteps.{fits_both, fits_one_more, fits_tail, fits_take, none_fit, result_if_ok, FitAll}
 use Rattle.branch_terms.proofs.LimbLists.{steps-numbered}
 
 module _ {P : Type 0} (b : Behaviour P) where
-  grown_fits : (f : Forest) (l : Limb) → StepsFit b f → AllFit b l.steps → StepsFit b (grown f l)
-  grown_fits f l each own =
+  with_limb_fits : (f : Forest) (l : Limb) → StepsFit b f → AllFit b l.steps → StepsFit b (with_limb f l)
+  with_limb_fits f l each own =
       let stem = slots_in f.branches l.from in
       fits_one_more b f.branches (branch l.name (slots_on f l)) each
       (fits_both b (take l.shared stem) (numbered f.made l.steps) (fits_take b l.shared stem (each l.from))
       (subst (AllFit b) (sym (steps-numbered f.made l.steps)) own))
 
-  grow_fits : (f : Forest) (ls : List Limb) → StepsFit b f → LimbsFit b ls → StepsFit b (grow f ls)
-  grow_fits f [] each own = each
-  grow_fits f (l ∷ ls) each own =
-      grow_fits (grown f l) ls (grown_fits f l each (All-head (λ l. AllFit b l.steps) l ls own)) (All-tail (λ l. AllFit b l.steps) l ls own)
+  with_limbs_fits : (f : Forest) (ls : List Limb) → StepsFit b f → LimbsFit b ls → StepsFit b (with_limbs f ls)
+  with_limbs_fits f [] each own = each
+  with_limbs_fits f (l ∷ ls) each own =
+      with_limbs_fits (with_limb f l) ls (with_limb_fits f l each (All-head (λ l. AllFit b l.steps) l ls own)) (All-tail (λ l. AllFit b l.steps) l ls own)
 
   pub loaded_fits : (limits : Limits) (ls : List Limb) (f : Forest) → LimbsFit b ls → loaded limits ls ≡ Ok f → StepsFit b f
   loaded_fits limits ls f own e =
       let last : Ok (forest_of ls) ≡ Ok f =
       result_if_ok (nat_lt limits.branches (length ls)) TooManyBranches _ f (result_if_ok (nat_lt limits.cells (own_cell_count ls)) Full _ f e) in
       let same : forest_of ls ≡ f = cc in
-      subst (StepsFit b) same (grow_fits no_branches ls (λ i. none_fit b) own)
+      subst (StepsFit b) same (with_limbs_fits no_branches ls (λ i. none_fit b) own)
 
   fits_drop : (n : ℕ) (slots : List Slot) → FitAll b slots → FitAll b (drop n slots)
   fits_drop zero slots fits = fits

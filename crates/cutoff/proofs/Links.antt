@@ -1,23 +1,22 @@
--- The effect of storing a run on numbers and links.
-use Rattle.std.proofs.Common.{◌≡◌, ℕ, zero, suc, ◌+◌, Bool, true, false, nat_eq, List, [], ◌∷◌, ◌++◌, map, Option, Some, None, MatchOption, ◌⊎◌, inl, inr, slice_get, refl, sym, ap, subst, ◌∙◌, eq-eqb, true≢false, ◌<◌, length, arith}
+-- Numbers and links of stored runs: after a run is stored, after an edit, and for equal registers.
+use Rattle.std.proofs.Common.{◌≡◌, ℕ, ◌+◌, Bool, true, false, nat_eq, List, [], ◌∷◌, ◌++◌, map, Option, Some, None, MatchOption, ◌⊎◌, inl, inr, slice_get, refl, sym, ap, subst, ◌∙◌, eq-eqb, true≢false, ◌<◌, length, arith}
 use Rattle.std.specs.Prelude.{⊤}
 use Rattle.std.specs.Option.{option_map}
+use Rattle.std.specs.Cmp.{IsPartialEquivalence}
 use Rattle.std.proofs.lemmas.Bool.{eqb-true}
 use Rattle.std.proofs.lemmas.List.{length-append}
 use Rattle.frames.specs.declared.types.Step.{Step}
 use Rattle.frames.specs.Configuration.{Configuration}
+use Rattle.frames.specs.Recorded.{without_register}
 use Rattle.schedule_trie.specs.Forest.{step_of}
-use Rattle.schedule_trie.specs.Trie.{TrieOf, SegmentOf, segment_at, slots_of, with_note, IsNoted}
+use Rattle.schedule_trie.specs.Trie.{TrieOf, SegmentOf, segment_at, slots_of, with_note, IsNoted, note_of, KeepsNotes}
+use Rattle.schedule_trie.proofs.segments.Notes.{notes_kept}
 use Rattle.cutoff.specs.Fitting.{StoredRun, steps_at}
-use Rattle.cutoff.specs.Links.{without_register, IsExitOf, IsGiven, IsStored, IsStoredIn, IsLinked}
+use Rattle.cutoff.specs.Links.{IsExitOf, IsGiven, IsStored, IsStoredIn, IsLinked}
+use Rattle.cutoff.proofs.Lists.{slice_get-more}
 use Rattle.branch_terms.proofs.Lists.{slice_get-last}
 
--- a list's items stay if more follow
-slice_get-more : {X : Type 0} (xs ys : List X) (i : ℕ) (x : X) → slice_get xs i ≡ Some x → slice_get (xs ++ ys) i ≡ Some x
-slice_get-more [] ys i x e = cc
-slice_get-more (y ∷ xs) ys zero x e = e
-slice_get-more (y ∷ xs) ys (suc i) x e = slice_get-more xs ys i x e
-
+-- a number's exit stays the same if runs get the numbers after those that are given
 pub exit_of-more : {P : Type 0} (exits more : List (Configuration ⊤ P)) (number : Option ℕ) (c : Configuration ⊤ P) → IsExitOf exits number c → IsExitOf (exits ++ more) number c
 exit_of-more exits more None c h = tt
 exit_of-more exits more (Some a) c h = slice_get-more exits more a c h
@@ -110,3 +109,28 @@ module _ {R P : Type 0} (E : R → R → Bool) (h : R) where
 pub linked_none : {R P : Type 0} (E : R → R → Bool) (h : R) (next : ℕ) (above : Option ℕ) (c d : Configuration ⊤ P) (trie : TrieOf (StoredRun R P))
     → IsLinked E h next above c trie → IsLinked E h next None d trie
 linked_none E h next above c d trie l = record { exits = l.exits; as_many = l.as_many; each = l.each; reached_exit = tt }
+
+-- stored runs are linked also for a register equal to h
+pub linked_equal : {R P : Type 0} (E : R → R → Bool) → IsPartialEquivalence E → (h g : R) (next : ℕ) (above : Option ℕ) (c : Configuration ⊤ P) (trie : TrieOf (StoredRun R P))
+    → E h g ≡ true → IsLinked E h next above c trie → IsLinked E g next above c trie
+linked_equal {R} {P} E per h g next above c trie e l = record { exits = l.exits; as_many = l.as_many; each = λ k. still (segment_at trie.segments k) (l.each k); reached_exit = l.reached_exit }
+  where
+    stored : (segment : List Step) (n : Option (StoredRun R P)) → MatchOption n ⊤ (IsStored E h l.exits segment) → MatchOption n ⊤ (IsStored E g l.exits segment)
+    stored segment None t = tt
+    stored segment (Some s) t = record { own = per.trans s.run.entry.register h g t.own e; covers = t.covers; id = t.id; link = t.link; checked = t.checked }
+
+    still : (o : Option (SegmentOf (StoredRun R P))) → IsStoredIn E h l.exits o → IsStoredIn E g l.exits o
+    still None t = tt
+    still (Some p) t = stored (map step_of p.slots) p.note t
+
+-- a segment without a run is as `IsStoredIn` says
+module _ {R P : Type 0} (E : R → R → Bool) (h : R) (exits : List (Configuration ⊤ P)) where
+  pub stored_in-unnoted : (o : Option (SegmentOf (StoredRun R P))) → note_of o ≡ None → IsStoredIn E h exits o
+  stored_in-unnoted None e = tt
+  stored_in-unnoted (Some p) e = subst (λ n. MatchOption n ⊤ (IsStored E h exits (map step_of p.slots))) (sym e) tt
+
+-- runs stay linked if segments keep their notes or lose them
+pub linked_kept : {R P : Type 0} (E : R → R → Bool) (h : R) (next : ℕ) (above : Option ℕ) (c : Configuration ⊤ P) (old new : TrieOf (StoredRun R P)) → KeepsNotes old new
+    → IsLinked E h next above c old → IsLinked E h next above c new
+linked_kept E h next above c old new notes l =
+    record { exits = l.exits; as_many = l.as_many; each = notes_kept (IsStoredIn E h l.exits) (stored_in-unnoted E h l.exits) old new notes l.each; reached_exit = l.reached_exit }

@@ -9,8 +9,8 @@ use Rattle.schedule_trie.specs.Trie.{TrieOf, KeyedBranch, segment_at, slots_of, 
 use Rattle.schedule_trie.specs.Climbs.{keys_to}
 use Rattle.schedule_trie.specs.Edits.{Fork, IsEdited, IsUnedited}
 use Rattle.schedule_trie.specs.changes.Forks.{IsForkedWhole, CutsNoneAtEnd}
-use Rattle.cutoff.specs.Fitting.{StoredRun, RunFits, run_of, steps_at}
-use Rattle.cutoff.specs.Prefixes.{HasTrueRun, RunsDown, RunsTo, IsMarked, exit_or_start, exit_or}
+use Rattle.cutoff.specs.Fitting.{StoredRun, RunFits, bare_run, steps_at}
+use Rattle.cutoff.specs.Prefixes.{HasTrueRun, RunsDown, RunsTo, RunsToOnAll, exit_or_start, exit_or}
 use Rattle.cutoff.specs.Charts.{Charted, IsCharted}
 use Rattle.cutoff.proofs.Edited.{charted_edited}
 use Rattle.cutoff.proofs.Prefixes.{down_after}
@@ -31,25 +31,25 @@ module _ {R P : Type 0} (E : R → R → Bool) (is : R → Behaviour P) (old new
 
   runs_to_kept : (start : Configuration R P) (k : ℕ) (keys : List ℕ) → RunsTo E is old start (Some k) keys → RunsTo E is new start (Some k) keys
   runs_to_kept start k keys d =
-      subst (RunsDown E is new (is start.register) start (keys_to keys (Some k))) (ap (λ ps. exit_or start (option_map run_of (note_of (segment_at ps k)))) (sym same))
+      subst (RunsDown E is new (is start.register) start (keys_to keys (Some k))) (ap (λ ps. exit_or start (option_map bare_run (note_of (segment_at ps k)))) (sym same))
       (down_after E is old new steps_same true_same (is start.register) start (keys_to keys (Some k)) (exit_or_start old start (Some k)) d)
 
 -- the marked segment can stay marked after a fork of a whole branch
 module _ {R P : Type 0} (E : R → R → Bool) (is : R → Behaviour P) (old new : TrieOf (StoredRun R P)) (start : Configuration R P) (index : ℕ) (name : List ℕ) (forked : IsForkedWhole old new index name) where
-  runs_to_forked : (k i j : ℕ) → IsMarked E is old start (Some k) → has k (keys_in new.branches i) ≡ true → keys_in new.branches i ≡ keys_in old.branches j → RunsTo E is new start (Some k) (keys_in new.branches i)
+  runs_to_forked : (k i j : ℕ) → RunsToOnAll E is old start (Some k) → has k (keys_in new.branches i) ≡ true → keys_in new.branches i ≡ keys_in old.branches j → RunsTo E is new start (Some k) (keys_in new.branches i)
   runs_to_forked k i j marked h e =
       subst (RunsTo E is new start (Some k)) (sym e) (runs_to_kept E is old new forked.segments start k (keys_in old.branches j) (marked j (subst (λ keys. has k keys ≡ true) e h)))
 
   abbrev new_branch : KeyedBranch
   new_branch = record { name = name; keys = keys_in old.branches index }
 
-  runs_to_either : (k i : ℕ) → IsMarked E is old start (Some k) → has k (keys_in new.branches i) ≡ true
+  runs_to_either : (k i : ℕ) → RunsToOnAll E is old start (Some k) → has k (keys_in new.branches i) ≡ true
       → (keys_in (old.branches ++ new_branch ∷ []) i ≡ keys_in old.branches i) ⊎ (keys_in (old.branches ++ new_branch ∷ []) i ≡ keys_in old.branches index)
       → RunsTo E is new start (Some k) (keys_in new.branches i)
   runs_to_either k i marked h (inl e) = runs_to_forked k i i marked h (ap (λ ss. keys_in ss i) forked.branches ∙ e)
   runs_to_either k i marked h (inr e) = runs_to_forked k i index marked h (ap (λ ss. keys_in ss i) forked.branches ∙ e)
 
-  pub marked_whole : (mark : Option ℕ) → IsMarked E is old start mark → IsMarked E is new start mark
+  pub marked_whole : (mark : Option ℕ) → RunsToOnAll E is old start mark → RunsToOnAll E is new start mark
   marked_whole None marked = tt
   marked_whole (Some k) marked = λ i h. runs_to_either k i marked h (keys_in-last old.branches new_branch i)
 
@@ -74,8 +74,8 @@ charted_forked {R} {P} {Y} E is next fresh mark after c new source place name re
 charted_forked {R} {P} {Y} E is next fresh mark after c new source place name (Ok y) was (inr whole) ok end err =
     let found = len_found c.trie source place whole.1 in
     charted_marked E is next None None None after (record { trie = new; start = c.start; value = c.value }) tt
-    (subst (IsMarked E is new c.start) (sym whole.0) (marked_whole E is c.trie new c.start found.0 name (end found.0 found.1.0 found.1.1) mark was.marked))
+    (subst (RunsToOnAll E is new c.start) (sym whole.0) (marked_whole E is c.trie new c.start found.0 name (end found.0 found.1.0 found.1.1) mark was.marked))
     (charted_edited E is next fresh mark c new (Fork source place name) (Ok y) was refl ok err)
 charted_forked {R} {P} {Y} E is next fresh mark after c new source place name (Err e) was (inr whole) ok end err =
     subst (λ d. IsCharted E is next None after (record { trie = d; start = c.start; value = c.value })) (sym err.unchanged)
-    (charted_marked E is next fresh mark None after c tt (subst (IsMarked E is c.trie c.start) (sym whole.0) was.marked) was)
+    (charted_marked E is next fresh mark None after c tt (subst (RunsToOnAll E is c.trie c.start) (sym whole.0) was.marked) was)

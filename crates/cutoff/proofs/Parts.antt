@@ -69,13 +69,13 @@ module _ {R P Z : Type 0} (trie : TrieOf (StoredRun R P)) (keys : List ℕ) (ind
       let run = arc_value x.0 in
       let left = map (run_at trie) (drop (index + 1) keys) in
       let here : parts_of rest (map (run_at trie) (drop index keys)) ≡ part run x.1 ∷ parts_of (rest - x.1) left =
-      ap (λ l. parts_of rest (map (run_at trie) l)) (split_at_index h) ∙ ap (λ o. parts_of rest (o ∷ left)) stored ∙ parts_next rest run left (some (nat_eq rest 0) refl) ∙ ap (λ m. part run m ∷ parts_of (rest - m) left) (sym count) in
+      ap (λ l. parts_of rest (map (run_at trie) l)) (split_at_index h) ∙ ap (λ o. parts_of rest (o ∷ left)) stored ∙ parts_next rest run left (not_zero (nat_eq rest 0) refl) ∙ ap (λ m. part run m ∷ parts_of (rest - m) left) (sym count) in
       was ∙ ap (λ l. map part_of runs ++ l) here ∙ sym (append_assoc (map part_of runs) (part run x.1 ∷ []) (parts_of (rest - x.1) left))
       ∙ ap (λ l. l ++ parts_of (rest - x.1) left) (sym (ap (map part_of) pushed ∙ part_last runs x))
     where
-      some : (t : Bool) → nat_eq rest 0 ≡ t → nat_eq rest 0 ≡ false
-      some true e = absurd (wanted (eqb-true rest 0 e))
-      some false e = e
+      not_zero : (t : Bool) → nat_eq rest 0 ≡ t → nat_eq rest 0 ≡ false
+      not_zero true e = absurd (wanted (eqb-true rest 0 e))
+      not_zero false e = e
 
   read_ends : parts_of rest (map (run_at trie) (drop index keys)) ≡ [] → map part_of runs ≡ all
   read_ends none = sym (was ∙ ap (λ l. map part_of runs ++ l) none ∙ append-nil (map part_of runs))

@@ -8,7 +8,7 @@ use Rattle.schedule_trie.specs.Climbs.{last_from}
 use Rattle.schedule_trie.proofs.branches.Lines.{slots_in_on}
 use Rattle.cutoff.specs.Fitting.{StoredRun}
 use Rattle.cutoff.specs.Charts.{StepsFit}
-use Rattle.cutoff.specs.Sights.{IsAbove}
+use Rattle.cutoff.specs.Prefixes.{IsAbove}
 
 -- the steps of a branch fit
 pub fits_on : {R P : Type 0} (b : Behaviour P) (trie : TrieOf (StoredRun R P)) → StepsFit b (forest trie) → (i : ℕ) (keys : List ℕ) → keys ≡ keys_in trie.branches i

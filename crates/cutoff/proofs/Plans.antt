@@ -12,6 +12,7 @@ paths_left [] i h = absurd (omega arith)
 paths_left (s ∷ ss) zero h = refl
 paths_left (s ∷ ss) (suc i) h = paths_left ss i (omega arith)
 
+-- no path is left after the last branch
 none_left : (branches : List KeyedBranch) (i : ℕ) → length branches ≤ i → map keys_of (drop i branches) ≡ []
 none_left [] zero h = refl
 none_left [] (suc i) h = refl

@@ -11,47 +11,22 @@ use Rattle.frames.specs.Equality.{SameConfiguration}
 use Rattle.frames.specs.Recorded.{AllFit}
 use Rattle.checkpoints.specs.Segment.{SegmentRun, IsRun}
 use Rattle.schedule_trie.specs.Forest.{step_of}
-use Rattle.schedule_trie.specs.Trie.{TrieOf, SegmentOf, segment_at, slots_of, note_of, with_note, line, has, Once, keys_in, IsCut}
+use Rattle.schedule_trie.specs.Trie.{TrieOf, SegmentOf, segment_at, slots_of, note_of, line, has, Once, keys_in, IsCut}
 use Rattle.schedule_trie.specs.Climbs.{keys_up_to, keys_to, last_from}
 use Rattle.schedule_trie.proofs.climbs.Climbs.{up_to-here}
-use Rattle.schedule_trie.proofs.lists.NoRepeats.{has-head, has-in, has-tail, once_before, has-left, last_from-push}
+use Rattle.schedule_trie.proofs.lists.NoRepeats.{has-head, has-in, once_before, has-left, last_from-push}
 use Rattle.schedule_trie.proofs.limbs.OwnParts.{last_reached}
 use Rattle.schedule_trie.proofs.lists.KeyPositions.{parting}
 use Rattle.schedule_trie.proofs.edits.Pushes.{line-append}
-use Rattle.cutoff.specs.Fitting.{StoredRun, run_of, RunPart, RunFits, steps_at, run_at, reached}
+use Rattle.cutoff.specs.Fitting.{StoredRun, bare_run, RunPart, steps_at, run_at, reached}
 use Rattle.cutoff.specs.Settles.{ReplaysIfNeeded, IsSegmentSettled, Settles, EndsWith, SettlesTo}
-use Rattle.cutoff.specs.Prefixes.{RunsDown, RunsTo, Hangs, EndsIn, IsRest, note_named, exit_or_start, exit_or}
-use Rattle.cutoff.proofs.Climbs.{path_once}
-use Rattle.cutoff.proofs.Fits.{register_kept, same_symm, run_fits_alike, fits_to_note, exit_same}
+use Rattle.cutoff.specs.Prefixes.{RunsDown, RunsTo, RunsHang, EndsIn, IsRest, note_if_any, exit_or_start, exit_or}
+use Rattle.cutoff.proofs.Fits.{register_kept, same_symm, run_fits_alike, fits_from_run_fits, exit_same}
 use Rattle.cutoff.proofs.HungRuns.{hang_kept, hang_down}
-use Rattle.cutoff.proofs.Prefixes.{down_same, down_more}
-use Rattle.cutoff.proofs.Segments.{noted_still}
+use Rattle.cutoff.proofs.Prefixes.{down_same, down_more, down_kept}
 use Rattle.cutoff.proofs.Walks.{reached_none, IsWalking, walk_starts, walk_on, fits_here, exit_of, exit_of-last}
-
--- a segment whose note is set to s has the note s, and the cells that it had
-pub noted_at : {T : Type 0} (s : T) (o p : Option (SegmentOf T)) → p ≡ option_map (with_note (Some s)) o → IsSome o → note_of p ≡ Some s
-noted_at s None p e h = absurd (true≢false (sym h))
-noted_at s (Some q) p e h = ap note_of e
-
-pub noted_cells : {T : Type 0} (s : T) (o p : Option (SegmentOf T)) → p ≡ option_map (with_note (Some s)) o → slots_of p ≡ slots_of o
-noted_cells s None p e = ap slots_of e
-noted_cells s (Some q) p e = ap slots_of e
-
--- runs stay stored if the segments at their keys stay as they are
-pub down_kept : {R P : Type 0} (E : R → R → Bool) (is : R → Behaviour P) (trie new : TrieOf (StoredRun R P)) (b : Behaviour P) (c : Configuration R P) (keys : List ℕ) (end : Configuration R P)
-    → ((j : ℕ) → has j keys ≡ true → segment_at new.segments j ≡ segment_at trie.segments j) → RunsDown E is trie b c keys end → RunsDown E is new b c keys end
-down_kept E is trie new b c [] end same d = d
-down_kept E is trie new b c (k ∷ ks) end same d =
-    let p = same k (has-head k ks) in
-    let steps : steps_at trie k ≡ steps_at new k = ap (λ o. map step_of (slots_of o)) (sym p) in (
-      record {
-        stored = d.0.stored;
-        noted = ap note_of p ∙ d.0.noted;
-        true_run = d.0.true_run;
-        fits = subst (λ l. RunFits E c l d.0.stored.run) steps d.0.fits;
-      },
-      subst (λ l. RunsDown E is new b (replayed b c l) ks end) steps (down_kept E is trie new b (replayed b c (steps_at trie k)) ks end (λ j h. same j (has-tail j k ks h)) d.1),
-    )
+use Rattle.cutoff.proofs.Keys.{path_once}
+use Rattle.cutoff.proofs.Noted.{noted_still, noted_at, noted_cells}
 
 -- the walk has passed the key `above`, or is above the first key; the segments `left` are still to
 -- go
@@ -75,6 +50,7 @@ pub record IsRestWalk {R P : Type 0} (E : R → R → Bool) (is : R → Behaviou
 rest_positive : {R P : Type 0} (old : TrieOf (StoredRun R P)) (key count rest : ℕ) (left : List ℕ) → 0 < count → EndsIn old key count rest left → 0 < rest
 rest_positive old key count rest left some ends = let s = ends.sum in omega arith
 
+-- a list with a last key isn't empty
 not_empty : (front : List ℕ) (key : ℕ) → [] ≡ front ++ key ∷ [] → ⊥
 not_empty [] key e = cc
 not_empty (k ∷ front) key e = cc
@@ -125,7 +101,7 @@ module _ {R P : Type 0} (E : R → R → Bool) (equal : IsEquivalence E) (per : 
     steps_still = ap (map step_of) (noted_cells s (segment_at trie.segments k) (segment_at new.segments k) settled.noted.here)
 
     exit_here : exit_or_start new start (Some k) ≡ run.exit
-    exit_here = ap (λ o. exit_or start (option_map run_of o)) noted_here
+    exit_here = ap (λ o. exit_or start (option_map bare_run o)) noted_here
 
     down_here : RunsDown E is new (is start.register) start (g.done ++ k ∷ []) (exit_or_start new start (Some k))
     down_here =
@@ -140,7 +116,7 @@ module _ {R P : Type 0} (E : R → R → Bool) (equal : IsEquivalence E) (per : 
     kept_here whole none = by settled.work
       where
         by : ReplaysIfNeeded E trie (exit_or_start trie start above) k run work → run_at new k ≡ run_at old k
-        by (inl f) = ap (option_map run_of) noted_here ∙ sym f.1 ∙ ap (λ o. option_map run_of (note_of o)) (g.walk.ahead k (has-head k (ks ++ back)))
+        by (inl f) = ap (option_map bare_run) noted_here ∙ sym f.1 ∙ ap (λ o. option_map bare_run (note_of o)) (g.walk.ahead k (has-head k (ks ++ back)))
         by (inr f) =
             let some = some_steps (segment_at old.segments k) (g.walk.there k (has-head k (ks ++ back))) (whole.sizes k) in
             let same : length (steps_at trie k) ≡ length (steps_at old k) = ap (λ o. length (map step_of (slots_of o))) (g.walk.ahead k (has-head k (ks ++ back))) in
@@ -232,11 +208,11 @@ module _ {R P : Type 0} (E : R → R → Bool) (equal : IsEquivalence E) (per : 
       let settled : IsSegmentSettled E trie trie (exit_or_start trie start above) k s 0 = record {
         noted = noted_still trie k s noted;
         fits = fits;
-        work = inl (fits_to_note E trie (exit_or_start trie start above) k s noted fits, ap (option_map run_of) noted, refl);
+        work = inl (fits_from_run_fits E trie (exit_or_start trie start above) k s noted fits, ap (option_map bare_run) noted, refl);
       } in
       let on = rest_walk_step E equal per is alike old trie start key count keys (front ++ left) back k place n above g trie s 0 settled down.0.true_run in
       let none : n + 0 ≡ n = omega arith in
-      let here : s.run.exit ≡ exit_or_start trie start (Some k) = sym (ap (λ o. exit_or start (option_map run_of o)) noted) in
+      let here : s.run.exit ≡ exit_or_start trie start (Some k) = sym (ap (λ o. exit_or start (option_map bare_run o)) noted) in
       rest_walk_down old trie start key count keys front left back place n (Some k) (replayed (is start.register) c (steps_at trie k)) end
       (subst (SameConfiguration E (replayed (is start.register) c (steps_at trie k))) here
       (same_symm E per s.run.exit (replayed (is start.register) c (steps_at trie k)) (exit_same E is alike (is start.register) c (steps_at trie k) s.run own down.0.true_run down.0.fits)))
@@ -333,10 +309,10 @@ module _ {R P : Type 0} (E : R → R → Bool) (equal : IsEquivalence E) (per : 
     fits_next = fits_left E equal per is alike old trie start key count keys (drop (index + 1) all ++ more) back (get_or all index 0) place n above rest_walk_at
 
     -- `o` is stored right above
-    module _ {new : TrieOf (StoredRun R P)} {o : Option (StoredRun R P)} {s : StoredRun R P} {work : ℕ} (above_is : note_named trie above ≡ o)
-        (settled : IsSegmentSettled E trie new (exit_or start (option_map run_of o)) (get_or all index 0) s work × IsRun (is s.run.entry.register) s.run) where
+    module _ {new : TrieOf (StoredRun R P)} {o : Option (StoredRun R P)} {s : StoredRun R P} {work : ℕ} (above_is : note_if_any trie above ≡ o)
+        (settled : IsSegmentSettled E trie new (exit_or start (option_map bare_run o)) (get_or all index 0) s work × IsRun (is s.run.entry.register) s.run) where
       settled_here : IsSegmentSettled E trie new (exit_or_start trie start above) (get_or all index 0) s work
-      settled_here = subst (λ p. IsSegmentSettled E trie new (exit_or start (option_map run_of p)) (get_or all index 0) s work) (sym above_is) settled.0
+      settled_here = subst (λ p. IsSegmentSettled E trie new (exit_or start (option_map bare_run p)) (get_or all index 0) s work) (sym above_is) settled.0
 
       pub noted_next : note_of (segment_at new.segments (get_or all index 0)) ≡ Some s
       noted_next =
@@ -365,7 +341,7 @@ module _ {R P : Type 0} (E : R → R → Bool) (equal : IsEquivalence E) (per : 
   exit_register : E (exit_or_start trie start above).register start.register ≡ true
   exit_register = subst (λ (d : Configuration R P). E d.register start.register ≡ true) g.from (subst (λ r. E (exit_of start g.parts).register r ≡ true) g.walk.same_register g.walk.same.register)
 
-  pub hanging_settles : Hangs E is old (exit_or_start trie start above) left → SettlesTo E is old trie start key count place i n
+  pub hanging_settles : RunsHang E is old (exit_or_start trie start above) left → SettlesTo E is old trie start key count place i n
   hanging_settles hangs =
       let c : Configuration R P = exit_or_start trie start above in
       let here : SameConfiguration E c c = record { register = equal.refl c.register; memory = refl; running = refl; stopped = refl } in

@@ -1,24 +1,18 @@
 -- A chart whose stored runs changed, but not its forest.
-use Rattle.std.proofs.Common.{◌≡◌, ℕ, ◌<◌, ◌≤◌, Bool, true, false, nat_lt, cond, List, length, map, Option, Some, None, IsSome, Result, Ok, Err, IsOk, IfErr, inl, inr, refl, sym, ap, subst, ◌∙◌, arith}
+use Rattle.std.proofs.Common.{◌≡◌, ℕ, ◌<◌, ◌≤◌, Bool, true, List, length, map, Option, Some, None, IsSome, inl, inr, refl, sym, ap, subst}
 use Rattle.std.specs.Option.{option_map, IfSome}
-use Rattle.std.specs.Result.{IsErrAnd}
-use Rattle.std.proofs.lemmas.Bool.Decides.{nat_tests}
 use Rattle.frames.specs.Behaviour.{Behaviour}
 use Rattle.frames.specs.Configuration.{Configuration, initial_configuration}
-use Rattle.frames.specs.Recorded.{AllFit}
+use Rattle.frames.specs.Recorded.{without_register}
 use Rattle.schedule_trie.specs.declared.slot.Slot.{Slot}
-use Rattle.schedule_trie.specs.declared.refusal.Refusal.{Refusal}
-use Rattle.schedule_trie.specs.declared.refusal.Refusal.TheVariants.{NoPlace, Memory}
-use Rattle.schedule_trie.specs.Forest.{Forest, IsRefused, slots_in, step_of, index_of, on_found}
-use Rattle.schedule_trie.specs.Trie.{TrieOf, SegmentOf, segment_at, note_of, line, forest, has, keys_in, SharesAbove, IsCut}
-use Rattle.schedule_trie.proofs.branches.Lines.{slots_in_on}
+use Rattle.schedule_trie.specs.Trie.{TrieOf, SegmentOf, segment_at, note_of, forest, has, keys_in, SharesAbove, IsCut}
 use Rattle.cutoff.specs.Fitting.{StoredRun, KeepsRuns}
 use Rattle.cutoff.specs.Settles.{IsFilled}
-use Rattle.cutoff.specs.Links.{without_register, IsLinked}
-use Rattle.cutoff.specs.Prefixes.{IsMarked, AreFresh}
+use Rattle.cutoff.specs.Links.{IsLinked}
+use Rattle.cutoff.specs.Prefixes.{RunsToOnAll, AreFresh}
 use Rattle.cutoff.specs.Known.{AreKnown, IsKnownDownTo}
 use Rattle.cutoff.specs.declared.known.Known.{Known}
-use Rattle.cutoff.specs.Charts.{Charted, IsCharted, StepsFit, keys_at, keys_named, looked_at, look}
+use Rattle.cutoff.specs.Charts.{Charted, IsCharted, StepsFit}
 
 -- if the cells at a key are the same, a segment is there if one was, and Q holds of its cells if it
 -- did
@@ -36,6 +30,7 @@ module _ {T : Type 0} (Q : List Slot → Type 0) where
   slots_still None (Some q) e h = cc
   slots_still (Some r) (Some q) e h = let same : q.slots ≡ r.slots = cc in subst Q (sym same) h
 
+-- branches stay cut into segments if only stored runs change
 pub cut_kept : {R P : Type 0} (old new : TrieOf (StoredRun R P)) (Missed : ℕ → Type 0) → KeepsRuns old new Missed → IsCut old → IsCut new
 cut_kept old new Missed kept trie = record {
   held = λ i k h. there_still (λ s. Unit {0}) (segment_at old.segments k) (segment_at new.segments k) (kept.slots k) (trie.held i k (subst (λ s. has k (keys_in s i) ≡ true) kept.branches h));
@@ -45,6 +40,7 @@ cut_kept old new Missed kept trie = record {
   shares = subst SharesAbove (sym kept.branches) trie.shares;
 }
 
+-- a chart with nothing marked keeps its invariant if only stored runs change, and stay linked
 pub charted_kept : {R P : Type 0} (E : R → R → Bool) (is : R → Behaviour P) (next after : ℕ) (fresh mark : Option ℕ) (c : Charted R P) (new : TrieOf (StoredRun R P)) (Missed : ℕ → Type 0)
     → KeepsRuns c.trie new Missed → IsLinked E c.start.register after None (without_register c.start) new → IsCharted E is next fresh mark c
     → IsCharted E is after None None (record { trie = new; start = c.start; value = c.value })
@@ -60,7 +56,7 @@ charted_kept E is next after fresh mark c new Missed kept linked was = record {
 
 -- the invariant holds with another mark and other fresh runs, if stored runs fit down to these
 pub charted_marked : {R P : Type 0} (E : R → R → Bool) (is : R → Behaviour P) (next : ℕ) (fresh mark first other : Option ℕ) (c : Charted R P) → AreFresh E is c.trie c.start first
-    → IsMarked E is c.trie c.start other → IsCharted E is next fresh mark c → IsCharted E is next first other c
+    → RunsToOnAll E is c.trie c.start other → IsCharted E is next fresh mark c → IsCharted E is next first other c
 charted_marked E is next fresh mark first other c all_marked marked was = record {
   within = was.within;
   begins = was.begins;
@@ -75,52 +71,14 @@ charted_marked E is next fresh mark first other c all_marked marked was = record
 pub chart_known : {R P : Type 0} (E : R → R → Bool) (is : R → Behaviour P) (next : ℕ) (known : Known) (c : Charted R P) → IsCharted E is next known.fresh known.mark c → AreKnown E is c.trie c.start known
 chart_known E is next known c was = record { linked = (next, was.linked); cut = was.cut; fits = was.fits; down = by }
   where
-    by : (k : ℕ) → IsKnownDownTo known k (note_of (segment_at c.trie.segments k)) → IsMarked E is c.trie c.start (Some k)
-    by k (inl here) = subst (IsMarked E is c.trie c.start) here was.marked
+    by : (k : ℕ) → IsKnownDownTo known k (note_of (segment_at c.trie.segments k)) → RunsToOnAll E is c.trie c.start (Some k)
+    by k (inl here) = subst (RunsToOnAll E is c.trie c.start) here was.marked
     by k (inr late) = subst (AreFresh E is c.trie c.start) late.3 was.fresh_marked k late.0 late.2 late.4
-
--- the named branch, by its index in the order the branches were made
-module _ {R P : Type 0} (b : Behaviour P) (trie : TrieOf (StoredRun R P)) (name : List ℕ) (index len : ℕ) (at : index_of (forest trie).branches name ≡ Some index)
-    (long : len ≡ length (slots_in (forest trie).branches index)) where
-  line_there : slots_in (forest trie).branches index ≡ line (segment_at trie.segments) (keys_in trie.branches index)
-  line_there = slots_in_on (segment_at trie.segments) trie.branches index
-
-  pub len_there : length (line (segment_at trie.segments) (keys_in trie.branches index)) ≡ len
-  len_there = ap length (sym line_there) ∙ sym long
-
-  pub fits_there : StepsFit b (forest trie) → AllFit b (map step_of (line (segment_at trie.segments) (keys_in trie.branches index)))
-  fits_there fits = subst (λ l. AllFit b (map step_of l)) line_there (fits index)
-
-  pub keys_there : keys_named trie name ≡ keys_in trie.branches index
-  keys_there = ap (λ o. keys_at o trie.branches) at
-
-  pub look_there : (place : ℕ) → place ≤ len → look (forest trie) name place ≡ Ok (forest trie)
-  look_there place within =
-      ap (λ o. on_found o (looked_at (forest trie) place)) at
-      ∙ ap (λ t. cond t (Err NoPlace) (Ok (forest trie))) (not_short (length (slots_in (forest trie).branches index)) (sym long))
-    where
-      not_short : (n : ℕ) → n ≡ len → nat_lt n place ≡ false
-      not_short n e = grind (arith, nat_tests)
-
--- a branch that has a place to look at is there
-pub look_found : (f g : Forest) (name : List ℕ) (place : ℕ) → look f name place ≡ Ok g → ◌≡◌ {A = Option ℕ} None (index_of f.branches name) → ⊥
-look_found f g name place ok none = let e : on_found None (looked_at f place) ≡ Ok g = ap (λ o. on_found o (looked_at f place)) none ∙ ok in cc
 
 -- a trie that equals `trie` keeps and fills what `trie` does
 pub keeps_still : {R P : Type 0} (E : R → R → Bool) (b : Behaviour P) (old : TrieOf (StoredRun R P)) (start : Configuration R P) (ks : List ℕ) {trie new : TrieOf (StoredRun R P)} → new ≡ trie
     → KeepsRuns old trie (IsFilled E b old trie start ks) → KeepsRuns old new (IsFilled E b old new start ks)
 keeps_still E b old start ks same = subst (λ t. KeepsRuns old t (IsFilled E b old t start ks)) (sym same)
-
--- P holds of an error that is passed up, if P follows from what holds of that error
-passed_up : {T E : Type 0} {Is : E → Type 0} (r : Result T E) (P : E → Type 0) → ((e : E) → Is e → P e) → IsErrAnd r Is → IfErr r P
-passed_up (Ok x) P f h = absurd h
-passed_up (Err e) P f h = f e h
-
-pub refused_still : {T : Type 0} {w : Result Forest Refusal} {f : Refusal} (r : Result T Refusal) → IsRefused w f → IsErrAnd r (λ e. e ≡ f) → IfErr r (IsRefused w)
-refused_still {w = w} r why = passed_up r (IsRefused w) (λ e h. subst (IsRefused w) (sym h) why)
-
-pub out_of_memory : {T : Type 0} {w : Result Forest Refusal} {f : Forest} (r : Result T Refusal) → w ≡ Ok f → IsErrAnd r (λ e. e ≡ Memory) → IfErr r (IsRefused w)
-out_of_memory {w = w} r ok = passed_up r (IsRefused w) (λ e h. inr (h, subst IsOk (sym ok) refl))
 
 -- a chart as its contract sees it, and its fields
 module _ {R P : Type 0} {v w : Charted R P} (seen : v ≡ w) where

@@ -4,20 +4,13 @@ use Rattle.std.specs.Cmp.{IsEquivalence}
 use Rattle.std.specs.Option.{option_map}
 use Rattle.frames.specs.Configuration.{Configuration}
 use Rattle.frames.specs.Equality.{SameConfiguration}
-use Rattle.schedule_trie.specs.Trie.{TrieOf, SegmentOf, segment, segment_at, note_of, with_note, IsNoted}
-use Rattle.cutoff.specs.Fitting.{StoredRun, run_of, RunFits, Fits, steps_at}
+use Rattle.frames.specs.Recorded.{without_register}
+use Rattle.schedule_trie.specs.Trie.{TrieOf, segment, segment_at, note_of, IsNoted}
+use Rattle.cutoff.specs.Fitting.{StoredRun, bare_run, RunFits, Fits, steps_at}
 use Rattle.cutoff.specs.Settles.{IsSegmentSettled}
-use Rattle.cutoff.specs.Links.{without_register, IsExitOf, IsGiven, IsStored, IsLinked}
-use Rattle.cutoff.proofs.Fits.{without_register_same, stored_at, fits_to_note}
+use Rattle.cutoff.specs.Links.{IsExitOf, IsGiven, IsStored, IsLinked}
+use Rattle.cutoff.proofs.Fits.{without_register_same, stored-from_stored_in, fits_from_run_fits}
 use Rattle.cutoff.proofs.Links.{taken_linked, new_linked}
-
--- setting a note that is there already changes nothing
-pub noted_still : {T : Type 0} (c : TrieOf T) (k : ℕ) (s : T) → note_of (segment_at c.segments k) ≡ Some s → IsNoted c c k (Some s)
-noted_still c k s e = record { here = by (segment_at c.segments k) e; others = λ j ne. refl; branches = refl; limits = refl; unchanged = refl }
-  where
-    by : (o : Option (SegmentOf _)) → note_of o ≡ Some s → o ≡ option_map (with_note (Some s)) o
-    by None h = cc
-    by (Some p) h = λ i. Some (segment p.slots (h i))
 
 module _ {R P : Type 0} (E : R → R → Bool) (old new : TrieOf (StoredRun R P)) (c : Configuration R P) (k : ℕ) (s : StoredRun R P) (noted : IsNoted old new k (Some s)) where
   -- the segment k is settled, if a new run of its steps from c is stored
@@ -49,13 +42,13 @@ module _ {R P : Type 0} (E : R → R → Bool) (old new : TrieOf (StoredRun R P)
     segment_taken = record {
       noted = noted;
       fits = subst (RunFits E c (steps_at old k)) (sym again) fits;
-      work = inl (fits_to_note E old c k was at_first fits, ap (option_map run_of) at_first ∙ ap Some (sym again), refl);
+      work = inl (fits_from_run_fits E old c k was at_first fits, ap (option_map bare_run) at_first ∙ ap Some (sym again), refl);
     }
 
     pub stored_again_linked : (next : ℕ) (above : Option ℕ) → IsLinked E c.register next above (without_register c) old → s.id ≡ was.id → s.checked ≡ was.checked → (s.link ≡ above) ⊎ (s.link ≡ was.link)
         → IsLinked E c.register next s.id (without_register s.run.exit) new
     stored_again_linked next above l number checked link =
-        let t : IsStored E c.register l.exits (steps_at old k) was = stored_at E c.register l.exits old k was (l.each k) at_first in
+        let t : IsStored E c.register l.exits (steps_at old k) was = stored-from_stored_in E c.register l.exits old k was (l.each k) at_first in
         taken_linked E c.register old new k next above c l s noted (record {
           own = subst (λ r. E r.entry.register c.register ≡ true) (sym again) t.own;
           covers = ap (λ r. r.steps) again ∙ t.covers;

@@ -10,20 +10,20 @@ use Rattle.frames.specs.Recorded.{AllFit}
 use Rattle.schedule_trie.specs.Forest.{step_of}
 use Rattle.schedule_trie.specs.Trie.{TrieOf, segment_at, slots_of, line, forest, keys_in, has, Once, IsCut}
 use Rattle.schedule_trie.specs.Climbs.{keys_up_to, keys_to, HasClimbedTo}
-use Rattle.schedule_trie.proofs.climbs.Climbs.{IsStepUp, step_up, up_to-here}
+use Rattle.schedule_trie.proofs.climbs.Climbs.{up_to-here}
 use Rattle.schedule_trie.proofs.lists.NoRepeats.{has_cases, has-append, has-head, has-tail, has-in, once_before}
 use Rattle.schedule_trie.proofs.limbs.OwnParts.{IsClimbing, last_reached}
 use Rattle.cutoff.specs.Charts.{StepsFit}
 use Rattle.cutoff.specs.Fitting.{StoredRun, Fits, steps_at}
 use Rattle.cutoff.specs.Plans.{FitsDownTo, Descends, Planned, job_of, key_of, with_job}
-use Rattle.cutoff.specs.Prefixes.{HasTrueRun, IsMarked, exit_or_start}
-use Rattle.cutoff.specs.Sights.{AreSeen, HasDescendedAbove, IsAbove, HasDescended, IsKnownAt, IsSight, IsUnseenPart, LooksBelow, sight_at}
-use Rattle.cutoff.proofs.Climbs.{path_once, once_after}
-use Rattle.cutoff.proofs.Edits.{all_left, all_right}
+use Rattle.cutoff.specs.Prefixes.{HasTrueRun, RunsToOnAll, exit_or_start, IsAbove}
+use Rattle.cutoff.specs.Sights.{AreSeen, HasDescendedAbove, HasDescended, IsKnownAt, IsSight, IsUnseenPart, FitsOrAddsJob, sight_at}
 use Rattle.cutoff.proofs.Fits.{fits_alike, same_symm}
 use Rattle.cutoff.proofs.Paths.{fits_on}
 use Rattle.cutoff.proofs.Prefixes.{down_same, runs_fit, runs_to_next}
-use Rattle.cutoff.proofs.Walks.{by_key}
+use Rattle.cutoff.proofs.Lists.{all_left, all_right}
+use Rattle.cutoff.proofs.Keys.{by_key, path_once, once_after}
+use Rattle.cutoff.proofs.Climbs.{above_step}
 
 -- what was found at each key stays the same when `None` is added to the list
 pub sight_at-none_added : (seen : List (Option Bool)) (k : ℕ) → sight_at (seen ++ None ∷ []) k ≡ sight_at seen k
@@ -97,18 +97,20 @@ none_seen E is trie start seen jobs no_sights no_jobs k =
     subst (λ l. IsSight E is trie start jobs k (sight_at l k)) (sym no_sights) (subst (λ l. has k (map key_of l) ≡ false) (sym no_jobs) refl)
 
 -- a visit of a key adds the key's job or nothing
-abbrev pub Grows : {R P : Type 0} → TrieOf (StoredRun R P) → ℕ → List (Planned R P) → List (Planned R P) → Type 0
-Grows {R} {P} trie key old new = (new ≡ old) ⊎ ((end : Configuration R P) × (new ≡ old ++ record { key = key; entry = end; steps = steps_at trie key } ∷ []))
+abbrev pub AddsAtMostOneJob : {R P : Type 0} → TrieOf (StoredRun R P) → ℕ → List (Planned R P) → List (Planned R P) → Type 0
+AddsAtMostOneJob {R} {P} trie key old new = (new ≡ old) ⊎ ((end : Configuration R P) × (new ≡ old ++ record { key = key; entry = end; steps = steps_at trie key } ∷ []))
 
-grows_has : {R P : Type 0} (trie : TrieOf (StoredRun R P)) (key : ℕ) (old new : List (Planned R P)) → Grows trie key old new → (m : ℕ) → has m (map key_of old) ≡ true → has m (map key_of new) ≡ true
-grows_has trie key old new (inl same) m h = ap (λ l. has m (map key_of l)) same ∙ h
-grows_has trie key old new (inr more) m h =
+-- after a visit of a key, a segment with a job still has one
+still_has_job : {R P : Type 0} (trie : TrieOf (StoredRun R P)) (key : ℕ) (old new : List (Planned R P)) → AddsAtMostOneJob trie key old new → (m : ℕ) → has m (map key_of old) ≡ true → has m (map key_of new) ≡ true
+still_has_job trie key old new (inl same) m h = ap (λ l. has m (map key_of l)) same ∙ h
+still_has_job trie key old new (inr more) m h =
     ap (λ l. has m (map key_of l)) more.1 ∙ keys_more trie key more.0 old m ∙ or_left (has m (map key_of old)) (has m (key ∷ [])) h
 
-grows_lacks : {R P : Type 0} (trie : TrieOf (StoredRun R P)) (key : ℕ) (old new : List (Planned R P)) → Grows trie key old new → (m : ℕ) → (m ≡ key → ⊥) → has m (map key_of old) ≡ false
+-- after a visit of a key, a segment other than the key's still has no job
+still_lacks_job : {R P : Type 0} (trie : TrieOf (StoredRun R P)) (key : ℕ) (old new : List (Planned R P)) → AddsAtMostOneJob trie key old new → (m : ℕ) → (m ≡ key → ⊥) → has m (map key_of old) ≡ false
     → has m (map key_of new) ≡ false
-grows_lacks trie key old new (inl same) m other h = ap (λ l. has m (map key_of l)) same ∙ h
-grows_lacks trie key old new (inr more) m other h =
+still_lacks_job trie key old new (inl same) m other h = ap (λ l. has m (map key_of l)) same ∙ h
+still_lacks_job trie key old new (inr more) m other h =
     ap (λ l. has m (map key_of l)) more.1 ∙ keys_more trie key more.0 old m ∙ ap (λ t. t || (nat_eq m key || false)) h ∙ ap (λ t. t || false) (ne_eqb m key other)
 
 module _ {R P : Type 0} (E : R → R → Bool) (per : IsPartialEquivalence E) (is : R → Behaviour P) (alike : (x y : R) → E x y ≡ true → is x ≡ is y)
@@ -122,13 +124,10 @@ module _ {R P : Type 0} (E : R → R → Bool) (per : IsPartialEquivalence E) (i
 
   -- one key further down
   module _ (whole : IsCut trie) (key : ℕ) (above : Option ℕ) (each : IsAbove trie key above) where
-    above_step : (i : ℕ) → has key (keys_in trie.branches i) ≡ true → IsStepUp (keys_in trie.branches i) key above
-    above_step i h = step_up (keys_in trie.branches i) key above (path_once trie whole i) h (λ front back e. each i front back e)
-
     pub descended_unfit : (old jobs : List (Planned R P)) → HasDescended E is trie start old jobs above false → HasDescended E is trie start old jobs (Some key) false
     descended_unfit old jobs c = λ i h.
         let keys = keys_in trie.branches i in
-        let s = above_step i h in
+        let s = above_step E per is alike trie whole start key above each i h in
         let p = c i s.reached in
         (p.0, p.1, subst (λ l. Descends E b trie start l (Some p.0) p.1) (sym s.is) (descends_more E b trie start p.1 (keys_to keys above) (key ∷ []) p.0 p.2), p.3, p.4)
 
@@ -137,7 +136,7 @@ module _ {R P : Type 0} (E : R → R → Bool) (per : IsPartialEquivalence E) (i
     descended_fit old jobs new c run same = (
       λ i h.
           let keys = keys_in trie.branches i in
-          let s = above_step i h in
+          let s = above_step E per is alike trie whole start key above each i h in
           runs_to_next E per is alike trie key run.stored run.noted run.true_run run.fits.steps start keys above s
           (down_same E per is alike trie b start (keys_to keys above) run.stored.run.entry (exit_or_start trie start above) run.fits.entry (c.0 i s.reached)),
       same ∙ c.1,
@@ -147,7 +146,7 @@ module _ {R P : Type 0} (E : R → R → Bool) (per : IsPartialEquivalence E) (i
         → new ≡ jobs ++ record { key = key; entry = exit_or_start trie start above; steps = steps_at trie key } ∷ [] → HasDescended E is trie start old new (Some key) false
     descended_missed old jobs new c other misses added = λ i h.
         let keys = keys_in trie.branches i in
-        let s = above_step i h in
+        let s = above_step E per is alike trie whole start key above each i h in
         let end = exit_or_start trie start above in
         let down = runs_fit E per is alike trie b start (keys_to keys above) end (c.0 i s.reached) in
         let lacks : has key (map key_of old) ≡ false = ap (λ l. has key (map key_of l)) (sym c.1) ∙ other in (
@@ -160,8 +159,8 @@ module _ {R P : Type 0} (E : R → R → Bool) (per : IsPartialEquivalence E) (i
 
   -- what was found stays so, and the key visited is now known
   pub seen_after : (seen after : List (Option Bool)) (jobs new : List (Planned R P)) (key : ℕ) (fits : Bool) → AreSeen E is trie start seen jobs → sight_at after key ≡ Some fits
-      → ((k : ℕ) → (k ≡ key → ⊥) → sight_at after k ≡ sight_at seen k) → HasDescended E is trie start new new (Some key) fits → Grows trie key jobs new → AreSeen E is trie start after new
-  seen_after seen after jobs new key fits were at others now grows = λ k. by_key k key (IsSight E is trie start new k (sight_at after k))
+      → ((k : ℕ) → (k ≡ key → ⊥) → sight_at after k ≡ sight_at seen k) → HasDescended E is trie start new new (Some key) fits → AddsAtMostOneJob trie key jobs new → AreSeen E is trie start after new
+  seen_after seen after jobs new key fits were at others now adds_at_most_one = λ k. by_key k key (IsSight E is trie start new k (sight_at after k))
       (λ e. subst (λ j. IsSight E is trie start new j (sight_at after j)) (sym e) (subst (IsSight E is trie start new key) (sym at) (by fits now)))
       (λ ne. subst (IsSight E is trie start new k) (sym (others k ne)) (still k ne (sight_at seen k) (were k)))
     where
@@ -170,9 +169,9 @@ module _ {R P : Type 0} (E : R → R → Bool) (per : IsPartialEquivalence E) (i
       by false h = h
 
       still : (k : ℕ) → (k ≡ key → ⊥) → (s : Option Bool) → IsSight E is trie start jobs k s → IsSight E is trie start new k s
-      still k ne None h = grows_lacks trie key jobs new grows k ne h
+      still k ne None h = still_lacks_job trie key jobs new adds_at_most_one k ne h
       still k ne (Some true) h = (h.0, refl)
-      still k ne (Some false) h = λ i r. let p = h i r in let there = grows_has trie key jobs new grows p.0 p.3 in (p.0, p.1, p.2, there, job_again trie p.0 p.1 new there)
+      still k ne (Some false) h = λ i r. let p = h i r in let there = still_has_job trie key jobs new adds_at_most_one p.0 p.3 in (p.0, p.1, p.2, there, job_again trie p.0 p.1 new there)
 
   -- a visit of a key, if runs don't fit down to the key above
   module _ (whole : IsCut trie) (key : ℕ) (above : Option ℕ) (each : IsAbove trie key above) (jobs : List (Planned R P)) where
@@ -184,29 +183,29 @@ module _ {R P : Type 0} (E : R → R → Bool) (per : IsPartialEquivalence E) (i
     seen_unfit seen after were at others c =
         seen_after seen after jobs jobs key false were at others (descended_again c.0 jobs (Some key) false (visit_unfit c.0 c.1)) (inl refl)
 
-    module _ (fits : Bool) (new : List (Planned R P)) (looks : LooksBelow E is trie (exit_or_start trie start above) key fits jobs new) (lacks : has key (map key_of jobs) ≡ false) where
+    module _ (fits : Bool) (new : List (Planned R P)) (looks : FitsOrAddsJob E is trie (exit_or_start trie start above) key fits jobs new) (lacks : has key (map key_of jobs) ≡ false) where
       pub visit_below : (old : List (Planned R P)) → HasDescendedAbove E is trie start old jobs key true → HasDescended E is trie start old new (Some key) fits
       visit_below old c = by fits looks
         where
-          by : (f : Bool) → LooksBelow E is trie (exit_or_start trie start above) key f jobs new → HasDescended E is trie start old new (Some key) f
+          by : (f : Bool) → FitsOrAddsJob E is trie (exit_or_start trie start above) key f jobs new → HasDescended E is trie start old new (Some key) f
           by true l = descended_fit whole key above each old jobs new (c above each) l.0 l.1
           by false l = descended_missed whole key above each old jobs new (c above each) lacks l.0 l.1
 
-      grows : Grows trie key jobs new
-      grows = by fits looks
+      adds_at_most_one : AddsAtMostOneJob trie key jobs new
+      adds_at_most_one = by fits looks
         where
-          by : (f : Bool) → LooksBelow E is trie (exit_or_start trie start above) key f jobs new → Grows trie key jobs new
+          by : (f : Bool) → FitsOrAddsJob E is trie (exit_or_start trie start above) key f jobs new → AddsAtMostOneJob trie key jobs new
           by true l = inl l.1
           by false l = inr (exit_or_start trie start above, l.1)
 
       pub seen_below : (seen after : List (Option Bool)) → AreSeen E is trie start seen jobs → sight_at after key ≡ Some fits → ((k : ℕ) → (k ≡ key → ⊥) → sight_at after k ≡ sight_at seen k)
           → (old : List (Planned R P)) × HasDescendedAbove E is trie start old jobs key true → AreSeen E is trie start after new
       seen_below seen after were at others c =
-          seen_after seen after jobs new key fits were at others (descended_again c.0 new (Some key) fits (visit_below c.0 c.1)) grows
+          seen_after seen after jobs new key fits were at others (descended_again c.0 new (Some key) fits (visit_below c.0 c.1)) adds_at_most_one
 
   -- what is known of a key that was visited or is marked is true
   known_descended : (seen : List (Option Bool)) (jobs : List (Planned R P)) (last : Option ℕ) (fits : Bool) → IsEquivalence E
-      → AreSeen E is trie start seen jobs → IsKnownAt (λ k. IsMarked E is trie start (Some k)) seen last fits → HasDescended E is trie start jobs jobs last fits
+      → AreSeen E is trie start seen jobs → IsKnownAt (λ k. RunsToOnAll E is trie start (Some k)) seen last fits → HasDescended E is trie start jobs jobs last fits
   known_descended seen jobs None fits equal are_seen known =
       subst (HasDescended E is trie start jobs jobs None) (sym known) ((λ i h. record { register = equal.refl start.register; memory = refl; running = refl; stopped = refl }), refl)
   known_descended seen jobs (Some k) fits equal are_seen (inl known) = subst (HasDescended E is trie start jobs jobs (Some k)) (sym known.1) (known.0, refl)
@@ -230,9 +229,9 @@ pub record IsPlanning {R P : Type 0} (E : R → R → Bool) (is : R → Behaviou
 module _ {R P : Type 0} (E : R → R → Bool) (per : IsPartialEquivalence E) (is : R → Behaviour P) (alike : (x y : R) → E x y ≡ true → is x ≡ is y)
     (trie : TrieOf (StoredRun R P)) (start : Configuration R P) (old : List (Planned R P)) (i : ℕ) where
   pub planning_starts : (seen was : List (Option Bool)) (left given : List ℕ) (fits : Bool) → IsEquivalence E → AreSeen E is trie start seen old
-      → was ≡ seen → given ≡ left → IsUnseenPart (λ k. IsMarked E is trie start (Some k)) was (keys_in trie.branches i) fits left → IsPlanning E is trie start old old seen i given fits
+      → was ≡ seen → given ≡ left → IsUnseenPart (λ k. RunsToOnAll E is trie start (Some k)) was (keys_in trie.branches i) fits left → IsPlanning E is trie start old old seen i given fits
   planning_starts seen was left given fits equal are_seen found same unseen =
-      let part = subst (λ l. IsUnseenPart (λ k. IsMarked E is trie start (Some k)) l (keys_in trie.branches i) fits left) found unseen in
+      let part = subst (λ l. IsUnseenPart (λ k. RunsToOnAll E is trie start (Some k)) l (keys_in trie.branches i) fits left) found unseen in
       subst (λ l. IsPlanning E is trie start old old seen i l fits) (sym same) (record {
         above = part.above;
         reached = part.reached;

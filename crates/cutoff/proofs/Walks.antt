@@ -1,26 +1,26 @@
 -- A walk down a branch that settles one segment after the other.
-use Rattle.std.proofs.Common.{◌≡◌, ℕ, ◌+◌, ◌-◌, ◌<◌, ◌≤◌, Bool, true, false, nat_eq, cond, List, [], ◌∷◌, ◌++◌, length, map, Option, Some, None, IsSome, MatchOption, ◌⊎◌, inl, inr, refl, sym, ap, subst, ◌∙◌, arith, append_assoc, true≢false, eq-eqb}
-use Rattle.std.specs.Prelude.{⊤, min}
+use Rattle.std.proofs.Common.{◌≡◌, ℕ, ◌+◌, ◌-◌, ◌<◌, ◌≤◌, Bool, true, false, nat_eq, cond, List, [], ◌∷◌, ◌++◌, length, map, Option, Some, None, IsSome, MatchOption, ◌⊎◌, inl, inr, refl, sym, ap, subst, ◌∙◌, arith, append_assoc, true≢false}
+use Rattle.std.specs.Prelude.{min}
 use Rattle.std.specs.Cmp.{IsPartialEquivalence, IsEquivalence}
 use Rattle.std.specs.Option.{option_map, IfSome}
 use Rattle.std.specs.Arc.{arc_value}
 use Rattle.std.specs.declared.sync.Arc.{Arc}
 use Rattle.std.proofs.lemmas.Bool.{eqb-true}
 use Rattle.std.proofs.lemmas.List.{length-append, length-map, map-append}
-use Rattle.frames.specs.declared.types.Step.{Step}
 use Rattle.frames.specs.Behaviour.{Behaviour}
 use Rattle.frames.specs.Configuration.{Configuration, replayed, fits_step}
 use Rattle.frames.specs.Equality.{SameConfiguration}
 use Rattle.checkpoints.specs.Segment.{SegmentRun, IsRun}
 use Rattle.frames.specs.Recorded.{AllFit}
 use Rattle.schedule_trie.specs.Forest.{step_of}
-use Rattle.schedule_trie.specs.Trie.{TrieOf, SegmentOf, segment_at, slots_of, note_of, with_note, line, has, Once, keys_in, IsNoted, IsCut}
+use Rattle.schedule_trie.specs.Trie.{TrieOf, SegmentOf, segment_at, slots_of, note_of, line, has, Once, keys_in, IsNoted, IsCut}
 use Rattle.schedule_trie.proofs.lists.NoRepeats.{has-head, has-tail, Once-from_linked}
-use Rattle.cutoff.specs.Fitting.{StoredRun, RunPart, run_of, RunFits, Fits, KeepsRuns, steps_at, slots_at, run_at, reached, counted, part_of}
+use Rattle.cutoff.specs.Fitting.{StoredRun, RunPart, bare_run, RunFits, Fits, KeepsRuns, steps_at, slots_at, run_at, reached, counted, part_of}
 use Rattle.cutoff.specs.Settles.{ReplaysIfNeeded, IsSettledAt, IsSegmentSettled, Settles, IsFilled}
-use Rattle.cutoff.specs.Links.{IsStored, IsStoredIn, IsLinked}
-use Rattle.cutoff.proofs.Edits.{all_left, all_right}
 use Rattle.cutoff.proofs.Fits.{register_kept, same_symm, run_fits_alike, fits_alike, exit_same}
+use Rattle.cutoff.proofs.Lists.{all_left, all_right}
+use Rattle.cutoff.proofs.Keys.{by_key, lacks_cons}
+use Rattle.cutoff.proofs.Noted.{noted_run, noted_slots}
 
 -- the exit of the last of these runs, or c if there are none
 abbrev pub exit_of : {R P : Type 0} → Configuration R P → List (RunPart R P) → Configuration R P
@@ -33,6 +33,7 @@ module _ {R P : Type 0} where
   reached_none trie [] = refl
   reached_none trie (k ∷ ks) = refl
 
+  -- the part of a run of which this many steps count
   abbrev pub part : SegmentRun R P → ℕ → RunPart R P
   part run count = record { run = run; count = count }
 
@@ -43,45 +44,6 @@ module _ {R P : Type 0} where
   counted-last : (parts : List (RunPart R P)) (p : RunPart R P) → counted (parts ++ p ∷ []) ≡ counted parts + p.count
   counted-last [] p = omega arith
   counted-last (q ∷ parts) p = let e : counted (parts ++ p ∷ []) ≡ counted parts + p.count = counted-last parts p in omega arith
-
--- two cases: two keys are the same, or they aren't
-pub by_key : (j k : ℕ) (Q : Type 0) → (j ≡ k → Q) → ((j ≡ k → ⊥) → Q) → Q
-by_key j k Q same other = by (nat_eq j k) refl
-  where
-    by : (b : Bool) → nat_eq j k ≡ b → Q
-    by true e = same (eqb-true j k e)
-    by false e = other (λ s. true≢false (sym (eq-eqb j k s) ∙ e))
-
-lacks_cons : (j k : ℕ) (ks : List ℕ) → has j (k ∷ ks) ≡ false → (j ≡ k → ⊥) × (has j ks ≡ false)
-lacks_cons j k ks h = (λ e. true≢false (sym (subst (λ i. has i (k ∷ ks) ≡ true) (sym e) (has-head k ks)) ∙ h), by (has j ks) refl)
-  where
-    by : (b : Bool) → has j ks ≡ b → has j ks ≡ false
-    by true e = absurd (true≢false (sym (has-tail j k ks e) ∙ h))
-    by false e = e
-
--- the effect of storing a run
-module _ {R P : Type 0} where
-  noted_run : (s : StoredRun R P) (o : Option (SegmentOf (StoredRun R P))) → IsSome o → option_map run_of (note_of (option_map (with_note (Some s)) o)) ≡ Some s.run
-  noted_run s None h = absurd (true≢false (sym h))
-  noted_run s (Some p) h = refl
-
-  pub noted_slots : (s : StoredRun R P) (o : Option (SegmentOf (StoredRun R P)))
-      → option_map (λ p. p.slots) (option_map (with_note (Some s)) o) ≡ option_map (λ p. p.slots) o
-  noted_slots s None = refl
-  noted_slots s (Some p) = refl
-
--- stored runs are linked also for a register equal to h
-pub linked_equal : {R P : Type 0} (E : R → R → Bool) → IsPartialEquivalence E → (h g : R) (next : ℕ) (above : Option ℕ) (c : Configuration ⊤ P) (trie : TrieOf (StoredRun R P))
-    → E h g ≡ true → IsLinked E h next above c trie → IsLinked E g next above c trie
-linked_equal {R} {P} E per h g next above c trie e l = record { exits = l.exits; as_many = l.as_many; each = λ k. still (segment_at trie.segments k) (l.each k); reached_exit = l.reached_exit }
-  where
-    stored : (segment : List Step) (n : Option (StoredRun R P)) → MatchOption n ⊤ (IsStored E h l.exits segment) → MatchOption n ⊤ (IsStored E g l.exits segment)
-    stored segment None t = tt
-    stored segment (Some s) t = record { own = per.trans s.run.entry.register h g t.own e; covers = t.covers; id = t.id; link = t.link; checked = t.checked }
-
-    still : (o : Option (SegmentOf (StoredRun R P))) → IsStoredIn E h l.exits o → IsStoredIn E g l.exits o
-    still None t = tt
-    still (Some p) t = stored (map step_of p.slots) p.note t
 
 -- a segment stays filled if its stored run stays
 filled_still : {R P : Type 0} (E : R → R → Bool) (b : Behaviour P) (old trie new : TrieOf (StoredRun R P)) (c : Configuration R P) (ks : List ℕ) (k : ℕ)
@@ -169,15 +131,15 @@ module _ {R P : Type 0} (E : R → R → Bool) (equal : IsEquivalence E) (per : 
       length-append (slots_of (segment_at old.segments k)) (line (segment_at old.segments) ks)
       ∙ ap (λ x. x + length (line (segment_at old.segments) ks)) (sym (length-map (slots_of (segment_at old.segments k)) step_of))
 
-  reached_here : (c : Bool) → nat_eq rest 0 ≡ c → c ≡ false → reached old rest (k ∷ ks) ≡ k ∷ reached old (rest - length (steps_at old k)) ks
-  reached_here c e f = ap (λ x. cond x [] (k ∷ reached old (rest - length (steps_at old k)) ks)) (e ∙ f)
+  reached_cons : (c : Bool) → nat_eq rest 0 ≡ c → c ≡ false → reached old rest (k ∷ ks) ≡ k ∷ reached old (rest - length (steps_at old k)) ks
+  reached_cons c e f = ap (λ x. cond x [] (k ∷ reached old (rest - length (steps_at old k)) ks)) (e ∙ f)
 
   reached_is : reached old rest (k ∷ ks) ≡ k ∷ reached old (rest - length (steps_at old k)) ks
   reached_is = by (nat_eq rest 0) refl
     where
       by : (c : Bool) → nat_eq rest 0 ≡ c → reached old rest (k ∷ ks) ≡ k ∷ reached old (rest - length (steps_at old k)) ks
       by true e = absurd (wanted (eqb-true rest 0 e))
-      by false e = reached_here false e refl
+      by false e = reached_cons false e refl
 
   module _ (new : TrieOf (StoredRun R P)) (s : StoredRun R P) (work count rest_after n_after : ℕ) (settled : IsSegmentSettled E trie new (exit_of start parts) k s work)
       (true_run : IsRun (is s.run.entry.register) s.run) (counts : count ≡ min rest (length s.run.steps)) (less : rest_after ≡ rest - count) (more_work : n_after ≡ n + work) where
@@ -198,26 +160,26 @@ module _ {R P : Type 0} (E : R → R → Bool) (equal : IsEquivalence E) (per : 
 
     stored_here : run_at new k ≡ Some run
     stored_here =
-        ap (λ o. option_map run_of (note_of o)) noted.here
+        ap (λ o. option_map bare_run (note_of o)) noted.here
         ∙ noted_run s (segment_at trie.segments k) (subst IsSome (sym here_same) (w.there k (has-head k ks)))
 
     other_segment : (j : ℕ) → (j ≡ k → ⊥) → segment_at new.segments j ≡ segment_at trie.segments j
     other_segment j ne = noted.others j ne
 
     other_run : (j : ℕ) → (j ≡ k → ⊥) → run_at new j ≡ run_at trie j
-    other_run j ne = ap (λ o. option_map run_of (note_of o)) (other_segment j ne)
+    other_run j ne = ap (λ o. option_map bare_run (note_of o)) (other_segment j ne)
 
     run_here : run_at trie k ≡ run_at old k
-    run_here = ap (λ o. option_map run_of (note_of o)) here_same
+    run_here = ap (λ o. option_map bare_run (note_of o)) here_same
 
     -- a stored run fits k in `trie` just if one did in `old`
     fits_now : Fits E old w.at k → Fits E trie (exit_of start parts) k
-    fits_now f = subst (λ o. MatchOption (option_map run_of (note_of o)) ⊥ (RunFits E (exit_of start parts) (map step_of (slots_of o)))) (sym here_same)
+    fits_now f = subst (λ o. MatchOption (option_map bare_run (note_of o)) ⊥ (RunFits E (exit_of start parts) (map step_of (slots_of o)))) (sym here_same)
         (fits_alike E per old w.at (exit_of start parts) k (same_symm E per (exit_of start parts) w.at w.same) f)
 
     fits_was : Fits E trie (exit_of start parts) k → Fits E old w.at k
     fits_was f = fits_alike E per old (exit_of start parts) w.at k w.same
-        (subst (λ o. MatchOption (option_map run_of (note_of o)) ⊥ (RunFits E (exit_of start parts) (map step_of (slots_of o)))) here_same f)
+        (subst (λ o. MatchOption (option_map bare_run (note_of o)) ⊥ (RunFits E (exit_of start parts) (map step_of (slots_of o)))) here_same f)
 
     work_was : ReplaysIfNeeded E old w.at k run work
     work_was = by settled.work

@@ -3,7 +3,7 @@ use Rattle.std.specs.Prelude.{ℕ, ◌≡◌, ◌<◌, Bool, nat_lt, List, [], O
 use Rattle.std.specs.List.{All}
 use Rattle.frames.specs.Behaviour.{Behaviour}
 use Rattle.frames.specs.Configuration.{Configuration, initial_configuration}
-use Rattle.frames.specs.Recorded.{AllFit}
+use Rattle.frames.specs.Recorded.{AllFit, without_register}
 use Rattle.schedule_trie.specs.declared.limb.Limb.{Limb}
 use Rattle.schedule_trie.specs.declared.refusal.Refusal.{Refusal}
 use Rattle.schedule_trie.specs.declared.refusal.Refusal.TheVariants.{NoPlace}
@@ -12,8 +12,8 @@ use Rattle.schedule_trie.specs.declared.limits.Limits.{Limits}
 use Rattle.schedule_trie.specs.Limbs.{AreLawfulLimbs}
 use Rattle.schedule_trie.specs.Trie.{TrieOf, KeyedBranch, AreLimits, IsBlank, IsCut, forest, keys_in}
 use Rattle.cutoff.specs.Fitting.{StoredRun, reached}
-use Rattle.cutoff.specs.Links.{without_register, IsLinked}
-use Rattle.cutoff.specs.Prefixes.{IsMarked, AreFresh}
+use Rattle.cutoff.specs.Links.{IsLinked}
+use Rattle.cutoff.specs.Prefixes.{RunsToOnAll, AreFresh}
 
 -- a chart: a forest cut into segments with their stored runs, the initial configuration, and the
 -- initial value
@@ -36,7 +36,7 @@ pub record IsCharted {R P : Type 0} (E : R → R → Bool) (is : R → Behaviour
   pub fits : StepsFit (is c.start.register) (forest c.trie)
   pub cut : IsCut c.trie
   pub linked : IsLinked E c.start.register next None (without_register c.start) c.trie
-  pub marked : IsMarked E is c.trie c.start mark
+  pub marked : RunsToOnAll E is c.trie c.start mark
   pub fresh_marked : AreFresh E is c.trie c.start fresh
 
 -- each limb's own steps fit the register with the behaviour b

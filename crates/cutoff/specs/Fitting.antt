@@ -34,8 +34,8 @@ pub record RunFits {R P : Type 0} (E : R → R → Bool) (c : Configuration R P)
 
 module _ {R P : Type 0} where
   -- a stored run, without the numbers that are stored with it
-  abbrev pub run_of : StoredRun R P → SegmentRun R P
-  run_of s = s.run
+  abbrev pub bare_run : StoredRun R P → SegmentRun R P
+  bare_run s = s.run
 
   -- the steps of the segment at a key
   abbrev pub steps_at : TrieOf (StoredRun R P) → ℕ → List Step
@@ -43,7 +43,7 @@ module _ {R P : Type 0} where
 
   -- the run stored at a key, if there is one
   abbrev pub run_at : TrieOf (StoredRun R P) → ℕ → Option (SegmentRun R P)
-  run_at trie k = option_map run_of (note_of (segment_at trie.segments k))
+  run_at trie k = option_map bare_run (note_of (segment_at trie.segments k))
 
   -- given a branch's keys in order, those of the segments that have at least one of the branch's
   -- first `place` cells

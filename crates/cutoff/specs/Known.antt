@@ -7,7 +7,7 @@ use Rattle.cutoff.specs.declared.known.Known.{Known}
 use Rattle.cutoff.specs.Charts.{StepsFit}
 use Rattle.cutoff.specs.Fitting.{StoredRun}
 use Rattle.cutoff.specs.Links.{AreLinked, run_checked}
-use Rattle.cutoff.specs.Prefixes.{IsMarked}
+use Rattle.cutoff.specs.Prefixes.{RunsToOnAll}
 
 -- the segment k, in which `stored` is stored, is marked, or its run was last found to fit with the
 -- number `known.fresh` or a greater one
@@ -21,4 +21,4 @@ pub record AreKnown {R P : Type 0} (E : R → R → Bool) (is : R → Behaviour 
   pub linked : AreLinked E start trie
   pub cut : IsCut trie
   pub fits : StepsFit (is start.register) (forest trie)
-  pub down : (k : ℕ) → IsKnownDownTo known k (note_of (segment_at trie.segments k)) → IsMarked E is trie start (Some k)
+  pub down : (k : ℕ) → IsKnownDownTo known k (note_of (segment_at trie.segments k)) → RunsToOnAll E is trie start (Some k)

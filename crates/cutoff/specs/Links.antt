@@ -3,13 +3,10 @@
 use Rattle.std.specs.Prelude.{ℕ, ◌≡◌, ◌<◌, ⊤, Bool, true, List, Option, Some, None, MatchOption, length, map, slice_get}
 use Rattle.frames.specs.declared.types.Step.{Step}
 use Rattle.frames.specs.Configuration.{Configuration}
+use Rattle.frames.specs.Recorded.{without_register}
 use Rattle.schedule_trie.specs.Forest.{step_of}
 use Rattle.schedule_trie.specs.Trie.{TrieOf, SegmentOf, segment_at}
 use Rattle.cutoff.specs.Fitting.{StoredRun}
-
--- a configuration without its register
-abbrev pub without_register : {R P : Type 0} → Configuration R P → Configuration ⊤ P
-without_register c = record { register = tt; memory = c.memory; running = c.running; stopped = c.stopped }
 
 -- `number` is `None`, or the number of a run with the exit c; `exits` has, at each index, the exit
 -- of the run whose number is that index

@@ -10,17 +10,17 @@ use Rattle.checkpoints.specs.Segment.{SegmentRun, IsRun}
 use Rattle.schedule_trie.specs.Forest.{step_of}
 use Rattle.schedule_trie.specs.Trie.{TrieOf, segment_at, slots_of, note_of, keys_in, has, line}
 use Rattle.schedule_trie.specs.Climbs.{keys_to, keys_up_to, last_of, HasClimbedTo}
-use Rattle.cutoff.specs.Fitting.{StoredRun, run_of, RunFits, steps_at}
+use Rattle.cutoff.specs.Fitting.{StoredRun, bare_run, RunFits, steps_at}
 use Rattle.cutoff.specs.Links.{run_checked}
 
 -- what is stored at a key; `None` if there is no key or no run
-abbrev pub note_named : {R P : Type 0} → TrieOf (StoredRun R P) → Option ℕ → Option (StoredRun R P)
-note_named trie None = None
-note_named trie (Some k) = note_of (segment_at trie.segments k)
+abbrev pub note_if_any : {R P : Type 0} → TrieOf (StoredRun R P) → Option ℕ → Option (StoredRun R P)
+note_if_any trie None = None
+note_if_any trie (Some k) = note_of (segment_at trie.segments k)
 
 -- the run stored at a key; `None` if there is no key or no run
-abbrev pub run_named : {R P : Type 0} → TrieOf (StoredRun R P) → Option ℕ → Option (SegmentRun R P)
-run_named trie key = option_map run_of (note_named trie key)
+abbrev pub run_if_any : {R P : Type 0} → TrieOf (StoredRun R P) → Option ℕ → Option (SegmentRun R P)
+run_if_any trie key = option_map bare_run (note_if_any trie key)
 
 -- the exit of a run, or c if there is no run
 abbrev pub exit_or : {R P : Type 0} → Configuration R P → Option (SegmentRun R P) → Configuration R P
@@ -29,7 +29,7 @@ exit_or c (Some run) = run.exit
 
 -- the exit of the run stored at a key, or `start` if there is no key or no run
 abbrev pub exit_or_start : {R P : Type 0} → TrieOf (StoredRun R P) → Configuration R P → Option ℕ → Configuration R P
-exit_or_start trie start key = exit_or start (run_named trie key)
+exit_or_start trie start key = exit_or start (run_if_any trie key)
 
 module _ {R P : Type 0} (E : R → R → Bool) (is : R → Behaviour P) (trie : TrieOf (StoredRun R P)) where
   -- the segment k, which begins at c, has a stored run that fits it; the run is true, for the
@@ -48,9 +48,9 @@ module _ {R P : Type 0} (E : R → R → Bool) (is : R → Behaviour P) (trie : 
 
   -- true runs are stored in all these segments: the first fits at c, and each other one at the exit
   -- of the run right above it
-  abbrev pub Hangs : Configuration R P → List ℕ → Type 0
-  Hangs c [] = Unit {0}
-  Hangs c (k ∷ ks) = (here : HasTrueRun c k) × Hangs here.stored.run.exit ks
+  abbrev pub RunsHang : Configuration R P → List ℕ → Type 0
+  RunsHang c [] = Unit {0}
+  RunsHang c (k ∷ ks) = (here : HasTrueRun c k) × RunsHang here.stored.run.exit ks
 
   module _ (start : Configuration R P) where
     -- true runs that fit are stored at these keys, from the first down to `last`, and replay
@@ -58,17 +58,17 @@ module _ {R P : Type 0} (E : R → R → Bool) (is : R → Behaviour P) (trie : 
     abbrev pub RunsTo : Option ℕ → List ℕ → Type 0
     RunsTo last keys = RunsDown (is start.register) start (keys_to keys last) (exit_or_start trie start last)
 
-    -- if a segment is marked: on each branch that has it, true runs that fit are stored in all
-    -- segments from the first down to it
-    abbrev pub IsMarked : Option ℕ → Type 0
-    IsMarked None = Unit {0}
-    IsMarked (Some k) = (i : ℕ) → has k (keys_in trie.branches i) ≡ true → RunsTo (Some k) (keys_in trie.branches i)
+    -- on all branches with the segment k, true runs that fit are stored from the first segment down
+    -- to k; if the key is `None`, nothing is required
+    abbrev pub RunsToOnAll : Option ℕ → Type 0
+    RunsToOnAll None = Unit {0}
+    RunsToOnAll (Some k) = (i : ℕ) → has k (keys_in trie.branches i) ≡ true → RunsTo (Some k) (keys_in trie.branches i)
 
-    -- `IsMarked` holds of each segment whose run was last found to fit with the number `first` or a
-    -- greater one; if `first` is `None`, nothing is required
+    -- `RunsToOnAll` holds of each segment whose run was last found to fit with the number `first` or
+    -- a greater one; if `first` is `None`, nothing is required
     abbrev pub AreFresh : Option ℕ → Type 0
     AreFresh None = Unit {0}
-    AreFresh (Some first) = (k a : ℕ) → run_checked (note_of (segment_at trie.segments k)) ≡ Some a → first ≤ a → IsMarked (Some k)
+    AreFresh (Some first) = (k a : ℕ) → run_checked (note_of (segment_at trie.segments k)) ≡ Some a → first ≤ a → RunsToOnAll (Some k)
 
     -- on each branch with the key k, true runs that fit are stored at all keys above k, and lead to
     -- the entry of `run`
@@ -79,8 +79,8 @@ module _ {R P : Type 0} (E : R → R → Bool) (is : R → Behaviour P) (trie : 
 
     -- on each branch with `key`, `fitted` is one of the branch's keys, and true runs that fit are
     -- stored from the first down to it; if `fitted` is `None`, nothing is required
-    abbrev pub IsKnown : ℕ → Option ℕ → Type 0
-    IsKnown key fitted = (i : ℕ) → has key (keys_in trie.branches i) ≡ true → HasClimbedTo (keys_in trie.branches i) fitted × RunsTo fitted (keys_in trie.branches i)
+    abbrev pub RunsToOnAllWith : ℕ → Option ℕ → Type 0
+    RunsToOnAllWith key fitted = (i : ℕ) → has key (keys_in trie.branches i) ≡ true → HasClimbedTo (keys_in trie.branches i) fitted × RunsTo fitted (keys_in trie.branches i)
 
 -- a climb from `last` ended at `up`, which is `stop` or `None`: on each branch with the key `last`,
 -- `left` are the keys below `up` down to `last`, followed by `below`
@@ -89,11 +89,15 @@ AreKeysAfter trie last below stop up left =
     ((up ≡ stop) ⊎ (up ≡ None))
     × ((i : ℕ) → HasClimbedTo (keys_in trie.branches i) last → HasClimbedTo (keys_in trie.branches i) up × (keys_to (keys_in trie.branches i) last ++ below ≡ keys_to (keys_in trie.branches i) up ++ left))
 
--- `stored` is what is stored at `key`, and on each branch with `key`, `above` is the key right
--- above it, or `None` if there is none
+-- on each branch with `key`, `above` is the key right above it, or `None` if `key` is the first
+abbrev pub IsAbove : {T : Type 0} → TrieOf T → ℕ → Option ℕ → Type 0
+IsAbove trie key above = (i : ℕ) (front back : List ℕ) → keys_in trie.branches i ≡ front ++ key ∷ back → above ≡ last_of front
+
+-- `stored` is what is stored at `key`, and `above` is the key right above it, or `None` if there is
+-- none
 pub record IsTop {R P : Type 0} (trie : TrieOf (StoredRun R P)) (key : ℕ) (stored : Option (StoredRun R P)) (above : Option ℕ) : Type 0 where
   pub noted : stored ≡ note_of (segment_at trie.segments key)
-  pub each : (i : ℕ) (front back : List ℕ) → keys_in trie.branches i ≡ front ++ key ∷ back → above ≡ last_of front
+  pub each : IsAbove trie key above
 
 -- `key` is the last of these keys; `place` is `count` plus the number of cells of all segments
 -- before `key`
@@ -126,7 +130,7 @@ pub record IsHung {R P : Type 0} (E : R → R → Bool) (is : R → Behaviour P)
   pub there : has top (keys_in trie.branches i) ≡ true
   pub below : List ℕ
   pub path : keys_up_to key (keys_in trie.branches i) ≡ keys_up_to top (keys_in trie.branches i) ++ below
-  pub hangs : (start : Configuration R P) → Hangs E is trie (exit_or_start trie start (Some top)) below
+  pub hangs : (start : Configuration R P) → RunsHang E is trie (exit_or_start trie start (Some top)) below
 
 -- what is left to settle of branch i below `fitted` down to `key`: the segments `left`, down to
 -- `top`, and then those below `top`, each of which has a run that begins at the exit of the run

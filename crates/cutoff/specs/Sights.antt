@@ -3,10 +3,10 @@ use Rattle.std.specs.Prelude.{ℕ, ◌≡◌, ◌⊎◌, Bool, true, false, List
 use Rattle.frames.specs.Behaviour.{Behaviour}
 use Rattle.frames.specs.Configuration.{Configuration}
 use Rattle.schedule_trie.specs.Trie.{TrieOf, keys_in, has}
-use Rattle.schedule_trie.specs.Climbs.{last_of, keys_to, HasClimbedTo}
+use Rattle.schedule_trie.specs.Climbs.{keys_to, HasClimbedTo}
 use Rattle.cutoff.specs.Fitting.{StoredRun, Fits, steps_at}
 use Rattle.cutoff.specs.Plans.{Planned, Descends, job_of, key_of, with_job}
-use Rattle.cutoff.specs.Prefixes.{HasTrueRun, RunsTo}
+use Rattle.cutoff.specs.Prefixes.{HasTrueRun, RunsTo, IsAbove}
 
 -- what a plan has found at a key: whether stored runs fit down to it; `None` if it hasn't visited
 -- the key
@@ -29,16 +29,12 @@ pub record IsUnseenPart (Marked : ℕ → Type 0) (seen : List (Option Bool)) (k
   pub lacks : (k : ℕ) → has k left ≡ true → sight_at seen k ≡ None
   pub known : IsKnownAt Marked seen above fits
 
--- on each branch with `key`, `above` is the key right above it, or `None` if `key` is the first
-abbrev pub IsAbove : {T : Type 0} → TrieOf T → ℕ → Option ℕ → Type 0
-IsAbove trie key above = (i : ℕ) (front back : List ℕ) → keys_in trie.branches i ≡ front ++ key ∷ back → above ≡ last_of front
-
 module _ {R P : Type 0} (E : R → R → Bool) (is : R → Behaviour P) (trie : TrieOf (StoredRun R P)) where
   -- the answer to whether a run that fits is stored in the segment k, which begins at c: if true,
   -- there is such a run, and the jobs stay; if false, there is none, and k's job is added
-  abbrev pub LooksBelow : Configuration R P → ℕ → Bool → List (Planned R P) → List (Planned R P) → Type 0
-  LooksBelow c k true old new = HasTrueRun E is trie c k × (new ≡ old)
-  LooksBelow c k false old new = (Fits E trie c k → ⊥) × (new ≡ old ++ record { key = k; entry = c; steps = steps_at trie k } ∷ [])
+  abbrev pub FitsOrAddsJob : Configuration R P → ℕ → Bool → List (Planned R P) → List (Planned R P) → Type 0
+  FitsOrAddsJob c k true old new = HasTrueRun E is trie c k × (new ≡ old)
+  FitsOrAddsJob c k false old new = (Fits E trie c k → ⊥) × (new ≡ old ++ record { key = k; entry = c; steps = steps_at trie k } ∷ [])
 
   module _ (start : Configuration R P) where
     -- one of these segments is the first that no stored run fits; `jobs` are `old`, with that

@@ -1,26 +1,24 @@
 //! The chart: branches of a schedule, with stored runs of their segments.
 
-ghost use Rattle.std.specs.Prelude.{ℕ, ◌≡◌, ◌<◌, ◌≤◌, Some, length, IfOk, IfErr, OnOk, Ok, Err};
+ghost use Rattle.std.specs.Prelude.{ℕ, ◌≡◌, ◌<◌, Some, length, IfOk, IfErr, Ok, Err};
 ghost use Rattle.frames.specs.Configuration.{initial_configuration};
 ghost use Rattle.frames.specs.Recorded.{AllFit};
-ghost use Rattle.schedule_trie.specs.Forest.{index_of, opened, IsRefused, slots_in, len_of, name_in, cell_on_branch, place_of, path_of, AreNamedApart, IsForest};
+ghost use Rattle.schedule_trie.specs.Forest.{opened, IsRefused, len_of, name_in, cell_on_branch, place_of, path_of, AreNamedApart, IsForest};
 ghost use Rattle.std.specs.Arc.{arc_value};
 ghost use Rattle.cutoff.specs.Plans.{AnswersPlan};
 ghost use Rattle.cutoff.specs.Installs.{Installs};
-ghost use Rattle.cutoff.specs.Charts.{CanBegin, IsNewChart, StepsFit, look};
-ghost use Rattle.cutoff.specs.Settles.{IsSettled, KeepsOrFills};
+ghost use Rattle.cutoff.specs.Charts.{CanBegin, IsNewChart, StepsFit};
 ghost use Rattle.schedule_trie.specs.Trie.{IsCut, IsBlank, forest, query_refusal};
 
 mod edits;
-mod last;
 mod limbs;
+mod settle;
 
 use crate::check::check_above;
 use crate::install::{Installation, fits_down, has_segment};
 use crate::known::Known;
 use crate::number::{Number, take_number};
 use crate::plan::{Base, Job, plan_all};
-use crate::runs::{Spot, runs_in};
 use crate::stored::Stored;
 use checkpoints::run::Run;
 use frames::config::Config;
@@ -68,7 +66,7 @@ impl<R: Register> Chart<R> {
     /// # Errors
     ///
     /// Full if there are more steps than `limits.cells`; Memory.
-    #[tactic(auto, using(crate::proofs::SameBranches::refused_still, crate::proofs::SameBranches::out_of_memory))]
+    #[tactic(auto, using(crate::proofs::Refusals::refused_still, crate::proofs::Refusals::out_of_memory))]
     pub fn new(
         alloc: Global,
         register: R,
@@ -214,43 +212,6 @@ impl<R: Register> Chart<R> {
         self.trie.path(alloc, branch)
     }
 
-    /// Settles a branch's first `place` cells: replays the whole of each segment that has one of
-    /// these cells and no stored run that fits, and stores the new run. Returns the run now stored
-    /// in each segment that has one of these cells. All these runs fit, and each comes with how
-    /// many of its steps are steps of these cells. Also returns how many steps were replayed in
-    /// all. Nothing else changes.
-    ///
-    /// # Errors
-    ///
-    /// NoBranch; NoPlace if the branch has fewer than `place` cells; Memory. On an error, some of
-    /// the new runs, which fit, may have been stored; nothing else changes.
-    #[tactic(auto, using(crate::proofs::SameBranches::refused_still, crate::proofs::SameBranches::out_of_memory))]
-    pub fn settle(&mut self, alloc: Global, branch: &Name, place: u32) -> Result<Spot<R>, Refusal>
-        ensures ok { IfOk result
-            (λ spot. IsSettled R.PartialEq.eq (R.behaviour self.old.start.register) self.old
-            self.new
-            branch.now place spot.runs spot.replayed) }
-        ensures found { OnOk result (look (forest self.old.trie) branch.now place
-            ≡ Ok (forest self.new.trie)) }
-        ensures err { IfErr result (IsRefused (look (forest self.old.trie) branch.now place)) }
-        ensures keeps { KeepsOrFills R.PartialEq.eq R.behaviour self.old self.new branch.now place }
-        ensures begins { self.old.start ≡ initial_configuration
-            (R.behaviour self.old.start.register) self.old.start.register self.old.value }
-        ensures start { self.new.start ≡ self.old.start }
-        ensures value { self.new.value ≡ self.old.value }
-    {
-        let last = self.settle_last(alloc, branch, place)?;
-        let Some(index) = self.trie.index(branch) else {
-            unreachable!()
-        };
-        let keys = self.trie.keys_at(alloc, index)?;
-        let runs = runs_in(alloc, &self.trie, &keys, place)?;
-        Ok(Spot {
-            runs,
-            replayed: last.replayed,
-        })
-    }
-
     /// For each branch, a job for its first segment that no stored run fits: the segment's key, the
     /// configuration that replay reaches at its start, and its steps. The job of the named branch
     /// comes first, then those of the other branches in the order they were made; no segment has
@@ -302,27 +263,4 @@ impl<R: Register> Chart<R> {
         check_above(&mut self.trie, self.fresh, id, key);
         Installation::Installed
     }
-}
-
-/// The index of a branch, in the order the branches were made, and the branch's length, which is at
-/// least `place`.
-///
-/// # Errors
-///
-/// NoBranch; NoPlace if the branch has fewer than `place` cells.
-fn branch_to<T: Drop>(trie: &Trie<T>, branch: &Name, place: u32) -> Result<(usize, u32), Refusal>
-    ensures index { IfOk result (λ r. index_of (forest trie.now).branches branch.now ≡ Some r.0) }
-    ensures len { IfOk result (λ r. len_of (forest trie.now) branch.now ≡ Some r.1) }
-    ensures long { IfOk result (λ r. r.1 ≡ length (slots_in (forest trie.now).branches r.0)) }
-    ensures within { IfOk result (λ r. place ≤ r.1) }
-    ensures err { IfErr result (IsRefused (look (forest trie.now) branch.now place)) }
-{
-    let Some(index) = trie.index(branch) else {
-        return Err(Refusal::NoBranch);
-    };
-    let len = trie.len_at(index);
-    if len < place {
-        return Err(Refusal::NoPlace);
-    }
-    Ok((index, len))
 }

@@ -22,7 +22,7 @@ use schedule_trie::trie::{SegKey, Trie};
 /// number `fresh` or a greater one, because stored runs are known to fit down to its segment. If
 /// the climb meets no such run, also tests whether the first run's entry is `start`. Never
 /// allocates.
-pub(crate) fn comes_down<R: Register>(
+pub(crate) fn runs_lead_to<R: Register>(
     trie: &Trie<Stored<R>>,
     start: &Config<R>,
     fresh: Number,

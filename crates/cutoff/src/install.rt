@@ -6,13 +6,14 @@ ghost use Rattle.schedule_trie.specs.Forest.{step_of};
 ghost use Rattle.schedule_trie.specs.Trie.{has, keys_in, segment_at, IsCut};
 ghost use Rattle.checkpoints.specs.Segment.{IsRun};
 ghost use Rattle.cutoff.specs.Fitting.{steps_at};
-ghost use Rattle.cutoff.specs.Links.{AreLinked, IsLinked, IsLinkedAt, without_register};
+ghost use Rattle.frames.specs.Recorded.{without_register};
+ghost use Rattle.cutoff.specs.Links.{AreLinked, IsLinked, IsLinkedAt};
 ghost use Rattle.cutoff.specs.Plans.{FitsDown};
 ghost use Rattle.cutoff.specs.Prefixes.{RunsLeadTo, AreFresh};
 
-use crate::climb::comes_down;
+use crate::climb::runs_lead_to;
 use crate::number::Number;
-use crate::settle::segment_cells;
+use crate::segment::segment_cells;
 use crate::stored::{Stored, entry_below, stored_at};
 use checkpoints::run::Run;
 use frames::config::Config;
@@ -63,7 +64,7 @@ pub(crate) fn fits_down<R: Register>(
         return (false, Number::none());
     }
     let above = trie.above(key);
-    if !comes_down(trie, start, fresh, above, run.entry()) {
+    if !runs_lead_to(trie, start, fresh, above, run.entry()) {
         return (false, Number::none());
     }
     let (_, number) = entry_below(start, stored_at(trie, above));

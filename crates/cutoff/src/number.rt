@@ -55,8 +55,8 @@ impl Number {
         Number { word: number }
     }
 
-    /// The number that `take_number` returns next; no number if all numbers are used.
-    pub(crate) fn following(next: u64) -> Number
+    /// The number that `take_number` returns next, without taking it; no number if all are used.
+    pub(crate) fn peek(next: u64) -> Number
         ensures { (result ≡ None) ⊎ (result ≡ Some next) }
     {
         Number { word: next }

@@ -5,8 +5,8 @@ ghost use Rattle.std.specs.Arc.{arc_value};
 ghost use Rattle.frames.specs.Configuration.{Configuration};
 ghost use Rattle.frames.specs.Recorded.{AllFit};
 ghost use Rattle.cutoff.specs.Plans.{Descends, Planned, Plans, with_job, job_of, keys_of};
-ghost use Rattle.cutoff.specs.Prefixes.{IsMarked, exit_or_start};
-ghost use Rattle.cutoff.specs.Sights.{AreSeen, HasDescendedAbove, HasDescended, IsUnseenPart, LooksBelow, sight_at};
+ghost use Rattle.cutoff.specs.Prefixes.{RunsToOnAll, exit_or_start};
+ghost use Rattle.cutoff.specs.Sights.{AreSeen, HasDescendedAbove, HasDescended, IsUnseenPart, FitsOrAddsJob, sight_at};
 ghost use Rattle.cutoff.specs.Fitting.{steps_at};
 ghost use Rattle.cutoff.specs.Known.{AreKnown};
 ghost use Rattle.cutoff.specs.Links.{AreLinked};
@@ -14,8 +14,8 @@ ghost use Rattle.schedule_trie.specs.Trie.{keys_in, IsCut};
 ghost use Rattle.schedule_trie.specs.Forest.{step_of};
 
 use crate::known::{Known, is_known_down_to};
-use crate::settle::{fitting, segment_cells};
-use crate::sight::{known, record_fit};
+use crate::segment::{fitting, segment_cells};
+use crate::sight::{known_fit, record_fit};
 use crate::stored::{Stored, entry_below, shared_entry, stored_at};
 use frames::config::Config;
 use frames::register::Register;
@@ -138,7 +138,7 @@ fn unseen_keys<R: Register>(
     requires known { AreKnown R.PartialEq.eq R.behaviour base.now.trie.now base.now.start.now
         base.now.known }
     ensures { IfOk result
-        (λ fits. IsUnseenPart (λ k. IsMarked R.PartialEq.eq R.behaviour base.now.trie.now
+        (λ fits. IsUnseenPart (λ k. RunsToOnAll R.PartialEq.eq R.behaviour base.now.trie.now
         base.now.start.now (Some k)) seen.now (keys_in base.now.trie.now.branches index) fits
         keys.new.items) }
 {
@@ -146,7 +146,7 @@ fn unseen_keys<R: Register>(
     let mut at = base.trie.last_at(index);
     while let Some(key) = at {
         let (note, above) = base.trie.step_up_from(key);
-        if let Some(fits) = known(is_known_down_to(&base.known, key, note), seen, key) {
+        if let Some(fits) = known_fit(is_known_down_to(&base.known, key, note), seen, key) {
             keys.reverse();
             return Ok(fits);
         }
@@ -194,14 +194,14 @@ fn visit<R: Register>(
         return Ok(false);
     }
     let above = base.trie.above(key);
-    let fits = look_below(base, above, key, &mut planning.jobs)?;
+    let fits = fits_or_adds_job(base, above, key, &mut planning.jobs)?;
     record_fit(&mut planning.seen, key, fits)?;
     Ok(fits)
 }
 
 /// Whether the run stored in the segment `key` fits at the exit of the run stored in the segment
 /// `above`, or at the start if there is none. If not, adds the segment's job.
-fn look_below<R: Register>(
+fn fits_or_adds_job<R: Register>(
     base: &Base<'_, R>,
     above: Option<SegKey>,
     key: SegKey,
@@ -210,7 +210,7 @@ fn look_below<R: Register>(
     requires linked { AreLinked R.PartialEq.eq base.now.start.now base.now.trie.now }
     requires fits { AllFit (R.behaviour base.now.start.now.register) (steps_at base.now.trie.now
         key) }
-    ensures { IfOk result (λ fits. LooksBelow R.PartialEq.eq R.behaviour base.now.trie.now
+    ensures { IfOk result (λ fits. FitsOrAddsJob R.PartialEq.eq R.behaviour base.now.trie.now
         (exit_or_start base.now.trie.now base.now.start.now above) key fits jobs.old.items
         jobs.new.items) }
 {

@@ -11,7 +11,7 @@ ghost use Rattle.frames.specs.Equality.{SameConfiguration};
 ghost use Rattle.schedule_trie.specs.Trie.{has, keys_in, IsCut};
 ghost use Rattle.schedule_trie.specs.Climbs.{keys_to, HasClimbedTo};
 ghost use Rattle.cutoff.specs.Links.{AreLinked};
-ghost use Rattle.cutoff.specs.Prefixes.{AreKeysAfter, IsKnown, IsPlaceIn, IsHung, IsLeftToSettle, IsTop};
+ghost use Rattle.cutoff.specs.Prefixes.{AreKeysAfter, RunsToOnAllWith, IsPlaceIn, IsHung, IsLeftToSettle, IsTop};
 ghost use Rattle.cutoff.specs.Known.{AreKnown};
 
 use crate::known::{Known, is_known_down_to, may_stop};
@@ -22,13 +22,13 @@ use schedule_trie::trie::{SegKey, Trie};
 use std::alloc::{AllocError, Global};
 
 /// What is left to settle of a branch down to one of its segments, the target. Stored runs are
-/// known to fit from the first segment down to `front`; if `front` is `None`, no run is known to
-/// fit. `keys` has the keys of the segments below `front`, down to `top`, in order. If `front` is
+/// known to fit from the first segment down to `fitted`; if `fitted` is `None`, no run is known to
+/// fit. `keys` has the keys of the segments below `fitted`, down to `top`, in order. If `fitted` is
 /// `None`, these begin with the branch's first segment. Each segment below `top`, down to the
 /// target, has a run that hangs from the run right above: it begins at the upper run's exit.
 #[derive(Drop)]
 pub(crate) struct Rest {
-    pub(crate) front: Option<SegKey>,
+    pub(crate) fitted: Option<SegKey>,
     pub(crate) keys: Vec<SegKey>,
     pub(crate) top: SegKey,
 }
@@ -56,27 +56,27 @@ fn begins_at<R: Register>(start: &Config<R>, top: &Top<'_, R>) -> bool
     }
 }
 
-/// Adds the keys of the segments from `front` up to `top` to `keys`, and returns the key of the
+/// Adds the keys of the segments from `bottom` up to `top` to `keys`, and returns the key of the
 /// segment right above `top`; `None` if `top` is the first segment of its branches. The contract
-/// says of the segments added only that they are those from `front` up to the one that is returned.
+/// says of the segments added only that they are those from `bottom` up to the one returned.
 fn pass<R: Register>(
     trie: &Trie<Stored<R>>,
-    front: SegKey,
+    bottom: SegKey,
     top: &Top<'_, R>,
     keys: &mut Vec<SegKey>,
 ) -> Result<Option<SegKey>, AllocError>
     requires cut { IsCut trie.now }
-    requires there { (i : ℕ) × (has front (keys_in trie.now.branches i) ≡ true) }
+    requires there { (i : ℕ) × (has bottom (keys_in trie.now.branches i) ≡ true) }
     requires top { IsTop trie.now top.now.key (option_copied top.now.stored) top.now.above }
-    ensures following { IfOk result (λ above. AreKeysAfter trie.now (Some front)
+    ensures following { IfOk result (λ above. AreKeysAfter trie.now (Some bottom)
         (reverse keys.old.items) above above (reverse keys.new.items)) }
     ensures more { OnOk result (length keys.old.items < length keys.new.items) }
 {
-    keys.push(front)?;
-    if top.key == front {
+    keys.push(bottom)?;
+    if top.key == bottom {
         return Ok(top.above);
     }
-    keys_up_to(trie, top.above, trie.above(front), keys)
+    climb_keys(trie, top.above, trie.above(bottom), keys)
 }
 
 /// The lowest segment, at `first` or above, down to which stored runs are known to fit, `None` if
@@ -94,22 +94,22 @@ fn known_prefix<R: Register>(
     requires there { (i : ℕ) × (has first.key (keys_in trie.now.branches i) ≡ true) }
     requires top { IsTop trie.now first.key (option_copied first.stored) first.above }
     ensures known { IfOk result (λ r.
-        IsKnown R.PartialEq.eq R.behaviour trie.now start.now first.entry.key r.0) }
+        RunsToOnAllWith R.PartialEq.eq R.behaviour trie.now start.now first.entry.key r.0) }
     ensures following { IfOk result (λ r.
         AreKeysAfter trie.now (Some first.entry.key) [] r.0 r.0 (reverse r.1.items)) }
 {
     let mut keys = Vec::new(alloc);
-    let mut front = first.key;
+    let mut bottom = first.key;
     let mut top = first;
     // a branch has at most one segment for each cell ever made
     for _ in 0..trie.made() {
         if is_known_down_to(known, top.key, top.stored) || begins_at(start, &top) {
-            return Ok((Some(front), keys));
+            return Ok((Some(bottom), keys));
         }
-        let Some(next) = pass(trie, front, &top, &mut keys)? else {
+        let Some(next) = pass(trie, bottom, &top, &mut keys)? else {
             return Ok((None, keys));
         };
-        front = next;
+        bottom = next;
         top = hung_from(trie, known, next);
     }
     unreachable!()
@@ -182,38 +182,38 @@ pub(crate) fn rest_to<R: Register>(
     requires known { AreKnown R.PartialEq.eq R.behaviour trie.now start.now known.now }
     requires there { (i : ℕ) × (has key (keys_in trie.now.branches i) ≡ true) }
     ensures { IfOk result (λ r. (i count place : ℕ) → IsPlaceIn trie.now key count place i
-        → IsLeftToSettle R.PartialEq.eq R.behaviour trie.now start.now r.front r.keys.items r.top
+        → IsLeftToSettle R.PartialEq.eq R.behaviour trie.now start.now r.fitted r.keys.items r.top
         key count place i) }
 {
     let first = hung_from(trie, known, key);
     let top = first.key;
-    let (front, mut keys) = known_prefix(alloc, trie, start, known, first)?;
+    let (fitted, mut keys) = known_prefix(alloc, trie, start, known, first)?;
     keys.reverse();
-    Ok(Rest { front, keys, top })
+    Ok(Rest { fitted, keys, top })
 }
 
-/// Climbs from the segment `last` until it meets `front` or has passed the first segment, and adds
-/// the keys of the segments passed to `keys`, each before the one right above it. Returns `front`
+/// Climbs from the segment `last` until it meets `stop` or has passed the first segment, and adds
+/// the keys of the segments passed to `keys`, each before the one right above it. Returns `stop`
 /// or `None`.
-fn keys_up_to<T: Drop>(
+fn climb_keys<T: Drop>(
     trie: &Trie<T>,
-    front: Option<SegKey>,
+    stop: Option<SegKey>,
     last: Option<SegKey>,
     keys: &mut Vec<SegKey>,
 ) -> Result<Option<SegKey>, AllocError>
     requires cut { IsCut trie.now }
     requires there { (i : ℕ) × HasClimbedTo (keys_in trie.now.branches i) last }
     ensures following { IfOk result (λ up. AreKeysAfter trie.now last (reverse keys.old.items)
-        front up (reverse keys.new.items)) }
+        stop up (reverse keys.new.items)) }
     ensures stops { IfOk result (λ up. (i f : ℕ) → HasClimbedTo (keys_in trie.now.branches i) last
-        → front ≡ Some f → has f (keys_to (keys_in trie.now.branches i) last) ≡ true
-        → up ≡ front) }
+        → stop ≡ Some f → has f (keys_to (keys_in trie.now.branches i) last) ≡ true
+        → up ≡ stop) }
     ensures more { OnOk result (length keys.old.items ≤ length keys.new.items) }
 {
     let mut at = last;
     // a branch has at most one segment for each cell ever made
     for _ in 0..trie.made() {
-        if at == front {
+        if at == stop {
             break;
         }
         let Some(key) = at else {
@@ -225,24 +225,24 @@ fn keys_up_to<T: Drop>(
     Ok(at)
 }
 
-/// Climbs from the segment `last` until it meets `front` or has passed the first segment. Returns
-/// `front` or `None`, and the keys of the segments passed, in order.
+/// Climbs from the segment `last` until it meets `stop` or has passed the first segment. Returns
+/// `stop` or `None`, and the keys of the segments passed, in order.
 pub(crate) fn keys_down_to<T: Drop>(
     alloc: Global,
     trie: &Trie<T>,
-    front: Option<SegKey>,
+    stop: Option<SegKey>,
     last: Option<SegKey>,
 ) -> Result<(Option<SegKey>, Vec<SegKey>), AllocError>
     requires cut { IsCut trie.now }
     requires there { (i : ℕ) × HasClimbedTo (keys_in trie.now.branches i) last }
     ensures following { IfOk result
-        (λ r. AreKeysAfter trie.now last [] front r.0 r.1.items) }
+        (λ r. AreKeysAfter trie.now last [] stop r.0 r.1.items) }
     ensures stops { IfOk result (λ r. (i f : ℕ) → HasClimbedTo (keys_in trie.now.branches i) last
-        → front ≡ Some f → has f (keys_to (keys_in trie.now.branches i) last) ≡ true
-        → r.0 ≡ front) }
+        → stop ≡ Some f → has f (keys_to (keys_in trie.now.branches i) last) ≡ true
+        → r.0 ≡ stop) }
 {
     let mut keys = Vec::new(alloc);
-    let at = keys_up_to(trie, front, last, &mut keys)?;
+    let at = climb_keys(trie, stop, last, &mut keys)?;
     keys.reverse();
     Ok((at, keys))
 }

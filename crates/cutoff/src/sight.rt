@@ -17,7 +17,7 @@ fn sight_at(seen: &[Option<bool>], key: SegKey) -> Option<bool>
 
 /// Whether stored runs fit down to the segment `key`: true if `fits`, else what the plan has found
 /// there; `None` if the plan hasn't visited it either.
-pub(crate) fn known(fits: bool, seen: &[Option<bool>], key: SegKey) -> Option<bool>
+pub(crate) fn known_fit(fits: bool, seen: &[Option<bool>], key: SegKey) -> Option<bool>
     ensures { MatchOption result (spec.sight_at seen.now key ≡ None)
         (λ known. ((fits ≡ true) × (known ≡ true)) ⊎ (spec.sight_at seen.now key ≡ Some known)) }
 {

@@ -6,9 +6,10 @@ ghost use Rattle.std.specs.Arc.{arc_value};
 ghost use Rattle.std.specs.Option.{option_copied, option_map};
 ghost use Rattle.checkpoints.specs.Segment.{IsRun};
 ghost use Rattle.frames.specs.Equality.{SameConfiguration};
-ghost use Rattle.cutoff.specs.Fitting.{run_of};
-ghost use Rattle.cutoff.specs.Links.{run_number, without_register};
-ghost use Rattle.cutoff.specs.Prefixes.{exit_or, note_named};
+ghost use Rattle.frames.specs.Recorded.{without_register};
+ghost use Rattle.cutoff.specs.Fitting.{bare_run};
+ghost use Rattle.cutoff.specs.Links.{run_number};
+ghost use Rattle.cutoff.specs.Prefixes.{exit_or, note_if_any};
 
 use crate::number::Number;
 use checkpoints::run::Run;
@@ -111,7 +112,7 @@ impl<R: Register> Stored<R> {
 
     /// The same run, linked to the run with the number `above`. If `above` is `None`, the run keeps
     /// its link.
-    pub(crate) fn following(&self, above: Number) -> Result<Stored<R>, AllocError>
+    pub(crate) fn linked_to(&self, above: Number) -> Result<Stored<R>, AllocError>
         ensures run { IfOk result (λ s. s.run ≡ self.now.run) }
         ensures id { IfOk result (λ s. s.id ≡ self.now.id) }
         ensures link { IfOk result (λ s. (s.link ≡ above) ⊎ (s.link ≡ self.now.link)) }
@@ -203,7 +204,7 @@ pub(crate) fn stored_at<R: Register>(
     trie: &Trie<Stored<R>>,
     key: Option<SegKey>,
 ) -> Option<&Stored<R>>
-    ensures { option_copied result ≡ note_named trie.now key }
+    ensures { option_copied result ≡ note_if_any trie.now key }
 {
     trie.note(key?)
 }
@@ -215,7 +216,7 @@ pub(crate) fn entry_below<'a, R: Register>(
     above: Option<&'a Stored<R>>,
 ) -> (&'a Config<R>, Number)
     ensures entry { result.0.now
-        ≡ exit_or start.now (option_map run_of (option_copied above.entry)) }
+        ≡ exit_or start.now (option_map bare_run (option_copied above.entry)) }
     ensures number { result.1 ≡ run_number (option_copied above.entry) }
     ensures kept { IfSome (option_copied above.entry)
         (λ s. IsRun (R.behaviour s.run.entry.register) s.run) }
@@ -234,7 +235,7 @@ pub(crate) fn shared_entry<R: Register>(
     above: Option<&Stored<R>>,
 ) -> Result<Arc<Config<R>>, AllocError>
     ensures { IfOk result
-        (λ c. arc_value c ≡ exit_or start.now (option_map run_of (option_copied above.entry))) }
+        (λ c. arc_value c ≡ exit_or start.now (option_map bare_run (option_copied above.entry))) }
 {
     match above {
         Some(stored) => Ok(Arc::try_clone(stored.run().shared_exit())?),

@@ -12,11 +12,13 @@ use Rattle.sessions.specs.Logs.{IsLegal, acted_by, entry, is_logged, logged, wor
 use Rattle.sessions.proofs.LegalLogs.{world_after_more}
 use Rattle.sessions.proofs.LoggedReplies.{acted_logged, acted_full}
 
+-- the test of a ≤ b is true if a ≤ b
 le_true : (a b : ℕ) (t : Bool) → nat_le a b ≡ t → a ≤ b → t ≡ true
 le_true a b true e h = refl
 le_true a b false e h = grind (arith, e, h)
 
 module _ {P : Type 0} where
+  -- the reply of a legal log's last entry is what its command gets after the entries before it
   legal_last : (w : World P) (log : List Entry) (e : Entry) → IsLegal w (log ++ e ∷ []) → (acted_by e (world_after w log)).reply ≡ e.reply
   legal_last w [] e h = h.0
   legal_last w (f ∷ log) e h = legal_last (acted_by f w).world log e h.2
@@ -26,6 +28,7 @@ module _ {P : Type 0} where
   abbrev IsCounted : World P → World P → ℕ → Type 0
   IsCounted w after n = (after.logged ≡ w.logged + n) × (after.limits ≡ w.limits)
 
+  -- a logged call counts as one more, since only a log that isn't full takes one
   counted_one_more : (t : Bool) (w : World P) (e : Entry) (n : ℕ) (after : World P) → is_full w ≡ t → (acted_by e w).reply ≡ e.reply → is_logged e.reply ≡ true
       → IsCounted (acted_by e w).world after n → IsCounted w after (suc n)
   counted_one_more true w e n after full same in_log rest = absurd (let none : false ≡ true = ap (λ a. is_logged a.reply) (sym (acted_full e.who w e.if_at e.command full)) ∙ (ap is_logged same ∙ in_log) in cc)
@@ -35,6 +38,7 @@ module _ {P : Type 0} where
       let count = rest.0 in
       (omega arith, rest.1 ∙ a.2)
 
+  -- each call of a legal log is counted
   counted_calls : (w : World P) (log : List Entry) → IsLegal w log → IsCounted w (world_after w log) (length log)
   counted_calls w [] h = (omega arith, refl)
   counted_calls w (e ∷ log) h = counted_one_more (is_full w) w e (length log) (world_after w (e ∷ log)) refl h.0 h.1 (counted_calls (acted_by e w).world log h.2)

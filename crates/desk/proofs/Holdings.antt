@@ -18,7 +18,7 @@ use Rattle.sessions.specs.declared.reply.Reply.TheVariants.{No}
 use Rattle.sessions.specs.World.{World}
 use Rattle.sessions.specs.Books.{BookOf, opening_of}
 use Rattle.sessions.specs.Logs.{IsLegal, entry, is_logged, logged, world_after}
-use Rattle.sessions.proofs.Openings.{tower_after}
+use Rattle.sessions.proofs.SameStart.{tower_after}
 use Rattle.desk.specs.declared.item.Item.{Item}
 use Rattle.desk.specs.declared.receipt.Receipt.{Receipt}
 use Rattle.desk.specs.declared.report.Report.{Report}
@@ -42,6 +42,7 @@ module _ {R P : Type 0} (is : R → Behaviour P) (first : BookOf R P) (v w : Vie
         reported = omega arith;
       }
 
+  -- a list of the opening and of calls that are legal from there is a history
   is_history : (list : List (Item R P)) (calls : List Entry) → list ≡ items first calls → IsLegal (opening_of is first) calls → IsHistory is first list
   is_history list calls is_list legal =
       let same : calls_in list ≡ calls = ap calls_in is_list ∙ calls_in_as_items R P calls in

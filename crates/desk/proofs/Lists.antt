@@ -8,6 +8,7 @@ use Rattle.desk.specs.declared.item.Item.{Item}
 use Rattle.desk.specs.declared.item.Item.TheVariants.{Opening, Call}
 use Rattle.desk.specs.Items.{calls_in, as_items, items}
 
+-- the calls in the list of these calls are these calls
 pub calls_in_as_items : (R P : Type 0) (calls : List Entry) → calls_in {R = R} {P = P} (as_items calls) ≡ calls
 calls_in_as_items R P [] = refl
 calls_in_as_items R P (e ∷ calls) = ap (λ l. e ∷ l) (calls_in_as_items R P calls)

@@ -11,6 +11,7 @@ use Rattle.desk.specs.declared.item.Item.TheVariants.{Call}
 use Rattle.desk.specs.Items.{made_under, as_items, items}
 use Rattle.desk.proofs.Lists.{items_more}
 
+-- the first entries of a legal log are a legal log
 pub legal_front : {P : Type 0} (w : World P) (xs ys : List Entry) → IsLegal w (xs ++ ys) → IsLegal w xs
 legal_front w [] ys h = tt
 legal_front w (e ∷ xs) ys h = (h.0, h.1, legal_front (acted_by e w).world xs ys h.2)
@@ -19,6 +20,7 @@ legal_front w (e ∷ xs) ys h = (h.0, h.1, legal_front (acted_by e w).world xs y
 abbrev pub logged_if : Bool → Entry → List Entry → List Entry
 logged_if t e log = cond t (log ++ e ∷ []) log
 
+-- a log is legal if it is with one more entry, or with none
 legal_before : {P : Type 0} (t : Bool) (w : World P) (e : Entry) (log : List Entry) → IsLegal w (logged_if t e log) → IsLegal w log
 legal_before true w e log h = legal_front w log (e ∷ []) h
 legal_before false w e log h = h
@@ -31,6 +33,7 @@ logged_if_last : (t : Bool) (e : Entry) (log : List Entry) → logged_if t e log
 logged_if_last true e log = refl
 logged_if_last false e log = sym (append-nil log)
 
+-- what a call adds to a log is the same for each log
 pub logged_last : (e : Entry) (log : List Entry) → logged e log ≡ log ++ logged e []
 logged_last e log = logged_if_last (is_logged e.reply) e log
 

@@ -5,6 +5,7 @@ use Rattle.cutoff.specs.declared.install.Installation.TheVariants.{Installed, St
 use Rattle.desk.specs.declared.report.Report.{Report}
 use Rattle.desk.specs.Reports.{IsSum, sum_of_reports, report_with, no_jobs}
 
+-- the counts add up in a report of no jobs, in one with one more job, and in a sum of two
 pub sum_none : (r : Report) → r ≡ no_jobs → IsSum r
 sum_none r none = subst IsSum (sym none) (omega arith)
 

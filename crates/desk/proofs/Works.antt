@@ -21,7 +21,7 @@ use Rattle.sessions.specs.Books.{BookOf, IsLegalBook, ActsOnBook, RefusesMemoryL
 use Rattle.sessions.specs.Logs.{IsLegal, entry, logged, is_logged, world_after}
 use Rattle.turn.specs.Entries.{AtMostOne}
 use Rattle.sessions.proofs.LoggedReplies.{acted_logged, acted_full}
-use Rattle.sessions.proofs.Openings.{tower_after}
+use Rattle.sessions.proofs.SameStart.{tower_after}
 use Rattle.desk.specs.declared.receipt.Receipt.{Receipt}
 use Rattle.desk.specs.declared.item.Item.{Item}
 use Rattle.desk.specs.declared.item.Item.TheVariants.{Call}
@@ -41,14 +41,17 @@ pub taken_book : {R P : Type 0} (is : R → Behaviour P) (first : BookOf R P) {o
     → opening_of is value ≡ opening_of is first → items first value.log ≡ before → IsJournalBook is first old before
 taken_book is first same opened listed = record { opened = ap (opening_of is) same ∙ opened; listed = ap (λ h. items first h.log) same ∙ listed }
 
+-- a ≤ b if the test of it is true
 le_from_true : (a b : ℕ) (t : Bool) → nat_le a b ≡ t → t ≡ true → a ≤ b
 le_from_true a b t e f = grind (arith, e, f)
 
+-- a look's slip, or its refusal, is an answer to the query
 pub answer_of : {R P : Type 0} (w : World P) (query : Query) (r : Result (Slipped R) Refusal) → IfOk r (λ slip. Some slip.page ≡ shown_in w query) → OnOk r (looked_in w query ≡ Ok w.forest)
     → IfErr r (IsRefused (looked_in w query)) → IsAnswer w query (answer_by r)
 answer_of w query (Ok slip) shown found refused = (found, shown)
 answer_of w query (Err e) shown found refused = refused
 
+-- if a slip's page shows no stray read, the look's answer shows none
 answer_no_stray : {R : Type 0} (r : Result (Slipped R) Refusal) → IfOk r (λ slip. ShowsNoStray slip.page) → IfOk (answer_by r) ShowsNoStray
 answer_no_stray (Ok slip) h = h
 answer_no_stray (Err e) h = tt
@@ -71,6 +74,7 @@ page_answers w query (Ok page) result (inl e) a = subst (IsAnswer w query) (sym 
 page_answers w query (Ok page) result (inr e) a = subst (IsAnswer w query) (sym e) (inr (refl, subst IsOk (sym a.0) refl))
 page_answers w query (Err r) result e a = subst (IsAnswer w query) (sym e) a
 
+-- if a look's answer shows no stray read, what results from making its page shows none
 pub paged_no_stray : (slip result : Result Page Refusal) → IsPaged slip result → IfOk slip ShowsNoStray → IfOk result ShowsNoStray
 paged_no_stray (Ok page) result (inl e) h = subst (λ r. IfOk r ShowsNoStray) (sym e) h
 paged_no_stray (Ok page) result (inr e) h = subst (λ r. IfOk r ShowsNoStray) (sym e) tt

@@ -53,11 +53,11 @@ where
     /// Stores runs (replayed segments) for segments that no stored run fits, in at most 64 rounds.
     /// A round has three parts: a plan lists jobs (segments to replay), and begins with the job of
     /// `branch` if there is one; the caller and up to `thieves` other threads (at most 4) run the
-    /// jobs without holding the turn, one thread for each 16,384 steps, so the caller alone if there
-    /// are fewer or `thieves` is 0; then the runs are installed. The fill ends early if a plan has
-    /// no job, if all jobs of a round run out of memory, or if a later plan finds no such branch.
-    /// The fill adds no call to the history. Afterwards the chair has seen at least the history that
-    /// the first plan found. The report counts how the jobs ended.
+    /// jobs without holding the turn, one thread for each 16,384 steps, so the caller alone if
+    /// there are fewer or `thieves` is 0; then the runs are installed. The fill ends early if a
+    /// plan has no job, if all jobs of a round run out of memory, or if a later plan finds no such
+    /// branch. The fill adds no call to the history. Afterwards the chair has seen at least the
+    /// history that the first plan found. The report counts how the jobs ended.
     ///
     /// # Errors
     ///
@@ -88,8 +88,7 @@ where
     ///
     /// # Errors
     ///
-    /// NoBranch if there is no such branch at the first plan; Memory if a plan runs out of memory,
-    /// or the crew (the threads that run the jobs) does. Runs that were already installed stay.
+    /// Those of `fill`.
     pub fn fill_with<W: Threads + Wait + Sync, G: Gate<W> + Sync>(
         &self,
         rt: &W,
@@ -195,7 +194,7 @@ impl<R: Register> Desk<R> {
         let mut report = Report::new();
         for done in outcomes {
             let answer = self.install(rt, chair, done);
-            report.count(answer);
+            report.add(answer);
         }
         report
     }

@@ -43,9 +43,9 @@ impl Report {
         self.memory == self.planned
     }
 
-    /// Counts one more planned job, and counts its run as installed, stale or gone, as `answer`
-    /// says. If `answer` is `None`, the job is counted as out of memory.
-    pub(crate) fn count(&mut self, answer: Option<Installation>)
+    /// Adds one more planned job, and counts its run as installed, stale or gone, as `answer` says.
+    /// If `answer` is `None`, the job is counted as out of memory.
+    pub(crate) fn add(&mut self, answer: Option<Installation>)
         requires sum { IsSum self.old }
         requires room { self.old.planned + 1 < 2 ^ 64 }
         ensures { self.new ≡ report_with answer self.old }

@@ -18,7 +18,7 @@ pub(crate) fn thieves_for<R: Register>(jobs: &[Job<R>], most: u32) -> u32
     if most == 0 {
         return 0;
     }
-    let worth = steps_in(jobs) / STEPS_FOR_A_THREAD;
+    let worth = step_count(jobs) / STEPS_FOR_A_THREAD;
     if worth < most as usize {
         worth as u32
     } else {
@@ -27,7 +27,7 @@ pub(crate) fn thieves_for<R: Register>(jobs: &[Job<R>], most: u32) -> u32
 }
 
 /// How many steps the jobs replay, or `usize::MAX` if they are more.
-fn steps_in<R: Register>(jobs: &[Job<R>]) -> usize
+fn step_count<R: Register>(jobs: &[Job<R>]) -> usize
     ensures { result ≤ steps_of_all jobs.now }
 {
     let mut steps: usize = 0;

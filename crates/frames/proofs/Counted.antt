@@ -32,14 +32,14 @@ TakesCount (Some (Got p x)) c z = (n : ℕ) × ((c.value n ≡ x) × ((c.low ≤
 TakesCount _ c z = z ≡ c
 
 -- there is an event, and it is an invocation
-abbrev pub Invokes : Option Event → Type 0
-Invokes (Some (Invoke p o)) = ⊤
-Invokes _ = ⊥
+abbrev pub IsInvocation : Option Event → Type 0
+IsInvocation (Some (Invoke p o)) = ⊤
+IsInvocation _ = ⊥
 
 -- The Bool says whether the step ends in a refusal. An operation may be refused only in the step
 -- that invokes it; it then counts for nothing.
 abbrev pub NumberedIf : Bool → Counted → StepEvents → Counted → Type 0
-NumberedIf true c e z = Invokes e.first × (z ≡ c)
+NumberedIf true c e z = IsInvocation e.first × (z ≡ c)
 NumberedIf false c e z = (mid : Counted) × (TakesCount e.first c mid × TakesCount e.second mid z)
 
 -- the step takes the count from c to z

@@ -298,12 +298,12 @@ reached_next-fails h = by h.0 h.1.0 h.1.1
     by o (Done outcome) s = answers o (subst (λ outcome. Answers 2 o outcome) (sym (ap (λ o. unwrap_or o Written) s.answer)) s.may_be_at)
 
 -- process 1 can be at the point before a read's end
-process-holds : (o : Op) × SafeReaches 1 o at.ReadEnd
-process-holds = (Read, refl)
+reaching_process-holds : (o : Op) × SafeReaches 1 o at.ReadEnd
+reaching_process-holds = (Read, refl)
 
 -- process 0 can't be at that point
-process-fails : (o : Op) × SafeReaches 0 o at.ReadEnd → ⊥
-process-fails h = by h.0 h.1
+reaching_process-fails : (o : Op) × SafeReaches 0 o at.ReadEnd → ⊥
+reaching_process-fails h = by h.0 h.1
   where
     by : (o : Op) → SafeReaches 0 o at.ReadEnd → ⊥
     by (Write v) r = r

@@ -9,8 +9,13 @@ use Rattle.frames.specs.declared.types.Reason.{Reason}
 use Rattle.frames.specs.declared.types.StepEvents.{StepEvents}
 use Rattle.frames.specs.Configuration.{chosen_of, in_order}
 use Rattle.frames.proofs.Seen.{Seen, Returned, after_step, read_in, reads, sees, got, refuses, refuses_none, Allowed}
-use Rattle.frames.proofs.Reached.{HasGoodEvents}
 use Rattle.frames.proofs.JoinedLists.{all_both}
+
+-- a step refuses nothing and returns only good reads, if the history before it shows s
+pub record HasGoodEvents (Good : Returned → Type 0) (s : Seen) (e : StepEvents) : Type 0 where
+  pub first : refuses e.first ≡ false
+  pub second : refuses e.second ≡ false
+  pub reads : AllByRecursion Good (read_in e s)
 
 -- what is seen after the invocation of an operation, unless it is refused at once
 pub begun_seen : (who : ℕ) (o : Op) (end : Option Event) (s : Seen) → refuses end ≡ false

@@ -4,8 +4,8 @@ pub mod Pointwise
 pub mod JoinedLists
 pub mod Seen
 pub mod VerdictFacts
-pub mod Moves
-pub mod Reached
+pub mod UnstoppedSteps
+pub mod Replayed
 pub mod GoodHistories
 pub mod Pending
 pub mod Accepted

@@ -25,8 +25,8 @@ use Rattle.frames.specs.Behaviour.{Behaviour, IsLawful, ReachedOrAnswered, Answe
 use Rattle.schedule_steps.specs.Steps.{process_of}
 use Rattle.frames.specs.OneWriter.{HasOneWriter}
 use Rattle.frames.specs.Configuration.{running_at, is_stopped, fits_step, stepped, history, events_of, acted_on, acting, acting_unless, invoking, going, return_of, still_running, chosen_of, in_order}
-use Rattle.frames.specs.Parked.{IsConfiguration}
-use Rattle.frames.specs.Recorded.{AllFit, Alone, at_index, indexed, first_configuration}
+use Rattle.frames.specs.StoredConfiguration.{IsConfiguration}
+use Rattle.frames.specs.Recorded.{AllFit, LoneConfiguration, at_index, indexed, first_configuration}
 use Rattle.frames.specs.correctness.Verdicts.{Known, refused_by, is_refused, counts, accepted, initially, after, invoked_now, returning, last_read, reading}
 use Rattle.frames.specs.correctness.Regularity.{in_progress, OnReturn, by_number, IsNumber, Numbered, IsAtomic}
 use Rattle.frames.specs.laws.Steps.{IsReached, step_keeps, process_exists}
@@ -305,7 +305,7 @@ module _ (v : ℕ) where
         step_same ops (put (process_of s) (op_of x) ops) _ k c z (λ i. put_present_at (process_of s) i (op_of x) ops there) (quiet_step ops (Void (process_of s) Stopped) k c n.1.0 z refl refl n.1.1.0 n.1.1.1 tt a)
     acting_unless_numbers false s x m ops k c z fits h reached there n a = acting_numbers s x m ops k c z fits h reached there n a
 
-    step_numbers : (d : Alone P) (s : Step) (k : Known) (c z : Counted) → IsConfiguration b Holds Reaches d → fits_step b s ≡ true → NumberedStep c (events_of b d s) z → CountAgrees v (ops_of d) k c
+    step_numbers : (d : LoneConfiguration P) (s : Step) (k : Known) (c z : Counted) → IsConfiguration b Holds Reaches d → fits_step b s ≡ true → NumberedStep c (events_of b d s) z → CountAgrees v (ops_of d) k c
         → StepNumbers (ops_of (stepped b d s)) (events_of b d s) k c z
     step_numbers d s k c z is fits n a =
         let p = process_of s in
@@ -315,7 +315,7 @@ module _ (v : ℕ) where
         (ops_after p done.running d there)
         (acting_unless_numbers (is_stopped p d) s (running_at p d) d.memory (ops_of d) k c z fits is.holds (is.reached p) refl n a)
 
-    numbered_from : (d : Alone P) (steps : List Step) (i : ℕ) (k : Known) (c : Counted) → IsConfiguration b Holds Reaches d → AllFit b steps → CountAgrees v (ops_of d) k c
+    numbered_from : (d : LoneConfiguration P) (steps : List Step) (i : ℕ) (k : Known) (c : Counted) → IsConfiguration b Holds Reaches d → AllFit b steps → CountAgrees v (ops_of d) k c
         → Allowed NumberedStep c (history b d steps) → CanBeNumbered c.floor k (indexed i (history b d steps))
     numbered_from d [] i k c is fit a n = (refl, tt)
     numbered_from d (s ∷ steps) i k c is fit a n =

@@ -21,16 +21,16 @@ use Rattle.frames.specs.Behaviour.{Behaviour, IsLawful, ReachedOrAnswered, Answe
 use Rattle.schedule_steps.specs.Steps.{process_of}
 use Rattle.frames.specs.OneWriter.{HasOneWriter}
 use Rattle.frames.specs.Configuration.{running_at, is_stopped, fits_step, stepped, history, events_of, acted_on, acting, acting_unless, invoking, going, return_of, still_running, chosen_of, in_order}
-use Rattle.frames.specs.Parked.{IsConfiguration}
-use Rattle.frames.specs.Recorded.{AllFit, Alone, at_index, indexed, first_configuration, recorded}
+use Rattle.frames.specs.StoredConfiguration.{IsConfiguration}
+use Rattle.frames.specs.Recorded.{AllFit, LoneConfiguration, at_index, indexed, first_configuration, recorded}
 use Rattle.frames.specs.correctness.Verdicts.{Known, initially, after}
 use Rattle.frames.specs.correctness.Regularity.{is_refusal, NoneRefused, OnReturn, EachRead, AlwaysReads}
 use Rattle.frames.specs.laws.Steps.{IsReached, step_keeps, process_exists}
 use Rattle.frames.specs.laws.OneWriter.{writer_zero, reader_is_not_zero}
-use Rattle.frames.proofs.Seen.{Seen, Returned, opening, sees, refuses, refuses_none, after_step, got, read_in, reads, Always}
+use Rattle.frames.proofs.Seen.{Seen, Returned, opening, sees, refuses, refuses_none, refuses_none_parts, after_step, got, read_in, reads, Always}
 use Rattle.frames.proofs.KnownAndSeen.{ReadAgrees, Agrees, agrees_same, agrees_write, agrees_read, agrees_ended, agrees_wrote, no_write_after_wrote, Alike}
 use Rattle.frames.proofs.Accepted.{all_accepted}
-use Rattle.frames.proofs.JoinedLists.{all_left, all_right, all_both, two_false}
+use Rattle.frames.proofs.JoinedLists.{all_left, all_right, all_both}
 use Rattle.frames.proofs.Pending.{op_of, ops_of, ops_after, none_pending_at, first_is_configuration}
 use Rattle.frames.proofs.Pointwise.{put, put_same, put_present_at, put_twice_at}
 
@@ -148,7 +148,7 @@ module _ {P : Type 0} (b : Behaviour P) (one : HasOneWriter b) (Holds : Memory �
   acting_unless_agrees true z x m ops k s fits h reached there f1 f2 a = record { first = tt; second = tt; after = agrees_same ops (put (process_of z) (op_of x) ops) k s (λ i. put_present_at (process_of z) i (op_of x) ops there) a }
   acting_unless_agrees false z x m ops k s fits h reached there f1 f2 a = acting_agrees z x m ops k s fits h reached there f1 f2 a
 
-  step_agrees : (c : Alone P) (z : Step) (k : Known) (s : Seen) → IsConfiguration b Holds Reaches c → fits_step b z ≡ true
+  step_agrees : (c : LoneConfiguration P) (z : Step) (k : Known) (s : Seen) → IsConfiguration b Holds Reaches c → fits_step b z ≡ true
       → refuses (events_of b c z).first ≡ false → refuses (events_of b c z).second ≡ false → Agrees (ops_of c) k s → StepAgrees (ops_of (stepped b c z)) (events_of b c z) k s
   step_agrees c z k s is fits f1 f2 a =
       let p = process_of z in
@@ -198,7 +198,7 @@ none_refused_join i e es f1 f2 h =
 
 none_refused_known : (i : ℕ) (es : List StepEvents) → IsTrue (refuses_none es) → NoneRefused (indexed i es)
 none_refused_known i [] h = refl
-none_refused_known i (e ∷ es) h = let t = two_false (refuses e.first) (refuses e.second) (refuses_none es) h in none_refused_join i e es t.0 t.1.0 (none_refused_known (i + 1) es t.1.1)
+none_refused_known i (e ∷ es) h = let t = refuses_none_parts (refuses e.first) (refuses e.second) (refuses_none es) h in none_refused_join i e es t.0 t.1.0 (none_refused_known (i + 1) es t.1.1)
 
 none_refused_seen : (i : ℕ) (es : List StepEvents) → NoneRefused (indexed i es) → IsTrue (refuses_none es)
 none_refused_seen i [] h = refl
@@ -230,14 +230,14 @@ module _ (Says : Known → ℕ → ℕ → Type 0) (Good : Returned → Type 0) 
   event_seen e k s a h = tt
 
   module _ {P : Type 0} (b : Behaviour P) (one : HasOneWriter b) (Holds : Memory → Type 0) (Reaches : ℕ → Op → P → Type 0) (lawful : IsLawful b Holds Reaches) where
-    known_from : (c : Alone P) (steps : List Step) (i : ℕ) (k : Known) (s : Seen) → IsConfiguration b Holds Reaches c → AllFit b steps → Agrees (ops_of c) k s
+    known_from : (c : LoneConfiguration P) (steps : List Step) (i : ℕ) (k : Known) (s : Seen) → IsConfiguration b Holds Reaches c → AllFit b steps → Agrees (ops_of c) k s
         → IsTrue (refuses_none (history b c steps)) → AllByRecursion Good (reads s (history b c steps)) → EachRead Says k (indexed i (history b c steps))
     known_from c [] i k s is fit a none all = tt
     known_from c (z ∷ steps) i k s is fit a none all =
         let fits : fits_step b z ≡ true = All-head (λ x. fits_step b x ≡ true) z steps fit in
         let e : StepEvents = events_of b c z in
         let later : List StepEvents = history b (stepped b c z) steps in
-        let t = two_false (refuses e.first) (refuses e.second) (refuses_none later) none in
+        let t = refuses_none_parts (refuses e.first) (refuses e.second) (refuses_none later) none in
         let g = step_agrees b one Holds Reaches lawful c z k s is fits t.0 t.1.0 a in
         let here = all_left Good (read_in e s) (reads (after_step e s) later) all in
         subst (EachRead Says k) (sym (append_assoc (at_index i e.first) (at_index i e.second) (indexed (i + 1) later))) (says_join i e.first k (at_index i e.second ++ indexed (i + 1) later) (event_known e.first k s g.first (all_left Good (got e.first s) (got e.second (sees e.first s)) here))
@@ -245,7 +245,7 @@ module _ (Says : Known → ℕ → ℕ → Type 0) (Good : Returned → Type 0) 
         (known_from (stepped b c z) steps (i + 1) (after_option e.second (after_option e.first k)) (after_step e s) (step_keeps b Holds Reaches lawful c z is fits) (All-tail (λ x. fits_step b x ≡ true) z steps fit) g.after t.1.1
         (all_right Good (read_in e s) (reads (after_step e s) later) all))))
 
-    seen_from : (c : Alone P) (steps : List Step) (i : ℕ) (k : Known) (s : Seen) → IsConfiguration b Holds Reaches c → AllFit b steps → Agrees (ops_of c) k s
+    seen_from : (c : LoneConfiguration P) (steps : List Step) (i : ℕ) (k : Known) (s : Seen) → IsConfiguration b Holds Reaches c → AllFit b steps → Agrees (ops_of c) k s
         → NoneRefused (indexed i (history b c steps)) → EachRead Says k (indexed i (history b c steps)) → AllByRecursion Good (reads s (history b c steps))
     seen_from c [] i k s is fit a none all = tt
     seen_from c (z ∷ steps) i k s is fit a none all =

@@ -8,9 +8,10 @@ use Rattle.schedule_steps.specs.declared.types.Op.{Op}
 use Rattle.frames.specs.declared.running.Running.{Running}
 use Rattle.frames.specs.Behaviour.{Behaviour, IsLawful}
 use Rattle.frames.specs.Configuration.{running_at}
-use Rattle.frames.specs.Parked.{IsConfiguration}
-use Rattle.frames.specs.Recorded.{Alone, first_configuration}
+use Rattle.frames.specs.StoredConfiguration.{IsConfiguration}
+use Rattle.frames.specs.Recorded.{LoneConfiguration, first_configuration}
 use Rattle.frames.specs.laws.Steps.{initial_is_configuration}
+pub use Rattle.frames.specs.laws.Steps.{none_pending_at}
 use Rattle.frames.proofs.Pointwise.{put, put_same, put_other}
 
 -- the operation that is pending, if any
@@ -18,23 +19,18 @@ abbrev pub op_of : {P : Type 0} → Option (Running P) → Option Op
 op_of slot = option_map (λ r. r.op) slot
 
 -- the operation that each process has pending, if any
-abbrev pub ops_of : {P : Type 0} → Alone P → ℕ → Option Op
+abbrev pub ops_of : {P : Type 0} → LoneConfiguration P → ℕ → Option Op
 ops_of c q = op_of (running_at q c)
 
 -- the pending operations after the operation of process p has changed
-pub ops_after : {P : Type 0} (p : ℕ) (x : Option (Running P)) (c : Alone P) → p < length c.running → (q : ℕ) → put p (op_of x) (ops_of c) q ≡ op_of (get_or (set c.running p x) q None)
+pub ops_after : {P : Type 0} (p : ℕ) (x : Option (Running P)) (c : LoneConfiguration P) → p < length c.running → (q : ℕ) → put p (op_of x) (ops_of c) q ≡ op_of (get_or (set c.running p x) q None)
 ops_after p x c there q = elim (cases_eq q p) as (λ _. put p (op_of x) (ops_of c) q ≡ op_of (get_or (set c.running p x) q None)) [
   | inl same ↦ ap (put p (op_of x) (ops_of c)) same ∙ put_same p (op_of x) (ops_of c)
       ∙ sym (ap (λ i. op_of (get_or (set c.running p x) i None)) same ∙ ap op_of (get_or-set_same c.running p x None there))
   | inr other ↦ put_other p q (op_of x) (ops_of c) other ∙ sym (ap op_of (get_or-set_other c.running p q x None other))
 ]
 
--- at first nothing is pending, and no process has stopped
-pub none_pending_at : {A : Type 0} (n p : ℕ) → ◌≡◌ {A = Option A} (get_or (replicate n None) p None) None
-none_pending_at zero p = refl
-none_pending_at (suc n) zero = refl
-none_pending_at (suc n) (suc p) = none_pending_at n p
-
+-- if no process has stopped, process p hasn't
 pub none_stopped_at : (n p : ℕ) → get_or (replicate n false) p false ≡ false
 none_stopped_at zero p = refl
 none_stopped_at (suc n) zero = refl

@@ -25,13 +25,13 @@ use Rattle.frames.specs.SafeBit.{safe_behaviour, SafeReaches, bit_of, value_of}
 use Rattle.schedule_steps.specs.Steps.{process_of}
 use Rattle.frames.specs.OneWriter.{HasOneWriter, one_writer}
 use Rattle.frames.specs.Configuration.{running_at, is_stopped, stepped, events_of, fits_step, history, return_of, still_running, chosen_of, in_order}
-use Rattle.frames.specs.Recorded.{Alone, AllFit, first_configuration}
+use Rattle.frames.specs.Recorded.{LoneConfiguration, AllFit, first_configuration}
 use Rattle.frames.specs.correctness.Regularity.{IsSafe, FreshAlone}
 use Rattle.frames.specs.Voids.{IsVoid, why_void}
 use Rattle.frames.specs.laws.Steps.{void_unless_enabled, stopped_is_void}
 use Rattle.frames.specs.laws.Safe.{safe_lawful, value_of_its_bit}
 use Rattle.frames.proofs.Seen.{Seen, opening, sees, now_last, IsFreshAlone, Always, Allowed}
-use Rattle.frames.proofs.Moves.{moves, StepsTo, step_begins, step_goes, step_stops}
+use Rattle.frames.proofs.UnstoppedSteps.{put_next, StepsTo, step_begins, step_goes, step_stops}
 use Rattle.frames.proofs.GoodHistories.{IsGoodStep, good_begun, good_gone, good_void, good_stop, good_refuses_none, good_reads}
 use Rattle.frames.proofs.KnownAndSeen.{fresh_alike}
 use Rattle.frames.proofs.OneWriterPromises.{always_known}
@@ -39,7 +39,7 @@ use Rattle.frames.proofs.VerdictFacts.{none_in_progress, is_fresh}
 
 -- a configuration of one safe bit alone
 abbrev SafeConfiguration : Type 0
-SafeConfiguration = Alone SafePoint
+SafeConfiguration = LoneConfiguration SafePoint
 
 -- how the cell agrees with the history, if process 0 is at this point of a write
 abbrev pub WriterAt : SafePoint → Seen → Cell → Type 0
@@ -74,7 +74,7 @@ pub record SafeInv (c : SafeConfiguration) (u : Seen) : Type 0 where
   pub reader : ReaderSays (running_at 1 c) u (cell_at 0 c.memory)
 
 writer_moves : (c : SafeConfiguration) (u z : Seen) (o : Op) (next : Next SafePoint) (m : Memory) → SafeInv c u → length m.cells ≡ 1 → value_of (cell_at 0 m).value ≡ z.last
-    → WriterSays (still_running o next) z (cell_at 0 m) → ReaderSays (running_at 1 c) z (cell_at 0 m) → SafeInv (moves 0 o next m c) z
+    → WriterSays (still_running o next) z (cell_at 0 m) → ReaderSays (running_at 1 c) z (cell_at 0 m) → SafeInv (put_next 0 o next m c) z
 writer_moves c u z o next m h size last writer reader = record {
   processes = length-set c.running 0 (still_running o next) ∙ h.processes;
   size = size;
@@ -84,7 +84,7 @@ writer_moves c u z o next m h size last writer reader = record {
 }
 
 reader_moves : (c : SafeConfiguration) (u z : Seen) (o : Op) (next : Next SafePoint) (m : Memory) → SafeInv c u → length m.cells ≡ 1 → value_of (cell_at 0 m).value ≡ z.last
-    → WriterSays (running_at 0 c) z (cell_at 0 m) → ReaderSays (still_running o next) z (cell_at 0 m) → SafeInv (moves 1 o next m c) z
+    → WriterSays (running_at 0 c) z (cell_at 0 m) → ReaderSays (still_running o next) z (cell_at 0 m) → SafeInv (put_next 1 o next m c) z
 reader_moves c u z o next m h size last writer reader = record {
   processes = length-set c.running 1 (still_running o next) ∙ h.processes;
   size = size;
@@ -151,7 +151,7 @@ IsSafeStep c u s = (z : Seen) × (IsGoodStep IsFreshAlone u (events_of safe_beha
 
 -- a step is good if its events are, and its effect keeps the invariant
 safe_step_by_effect : (c : SafeConfiguration) (u z : Seen) (s : Step) (who : ℕ) (o : Op) (event : Option Event) (next : Next SafePoint) (m : Memory) → StepsTo safe_behaviour c s who o event next m
-    → IsGoodStep IsFreshAlone u (in_order event (return_of who next)) z → SafeInv (moves who o next m c) z → IsSafeStep c u s
+    → IsGoodStep IsFreshAlone u (in_order event (return_of who next)) z → SafeInv (put_next who o next m c) z → IsSafeStep c u s
 safe_step_by_effect c u z s who o event next m to good_step inv = (z, (subst (λ e. IsGoodStep IsFreshAlone u e z) (sym to.events) good_step, subst (λ d. SafeInv d z) (sym to.after) inv))
 
 void_is_safe_step : (c : SafeConfiguration) (u : Seen) (s : Step) → IsVoid safe_behaviour c s → SafeInv c u → IsSafeStep c u s

@@ -2,10 +2,8 @@
 -- `OneWriterPromises` shows that this fold and `Known` agree.
 use Rattle.std.specs.Prelude.{◌≡◌, ◌≢◌, ℕ, ◌<◌, Bool, true, false, Option, Some, None, List, [], ◌∷◌, ◌++◌, ◌==◌, ◌&&◌, ◌||◌, if◌then◌else◌, IsTrue}
 use Rattle.std.specs.List.{list_any, AllByRecursion}
-use Rattle.std.proofs.Common.{refl, ap, eq-eqb}
+use Rattle.std.proofs.Common.{refl, ap, eq-eqb, rules}
 use Rattle.schedule_steps.specs.declared.types.Op.TheVariants.{Read, Write}
-use Rattle.frames.specs.declared.types.Outcome.{Outcome}
-use Rattle.frames.specs.declared.types.Outcome.TheVariants.{Value, Written, Spent}
 use Rattle.schedule_steps.specs.declared.types.Step.{Step}
 use Rattle.frames.specs.declared.types.Event.{Event}
 use Rattle.frames.specs.declared.types.Event.TheVariants.{Invoke, Got, Wrote, Refused}
@@ -14,6 +12,7 @@ use Rattle.frames.specs.declared.verdict.Verdict.{Verdict}
 use Rattle.frames.specs.declared.verdict.Verdict.TheVariants.{Fresh, Overlap, Stray}
 use Rattle.frames.specs.Behaviour.{Behaviour}
 use Rattle.frames.specs.Configuration.{history}
+pub use Rattle.frames.specs.Configuration.{end_event}
 use Rattle.frames.specs.Recorded.{AllFit, first_configuration}
 use Rattle.frames.specs.correctness.Regularity.{in_progress}
 use Rattle.frames.proofs.Pointwise.{put}
@@ -99,6 +98,10 @@ abbrev pub refuses_none : List StepEvents → Bool
 refuses_none [] = true
 refuses_none (e ∷ es) = (if refuses e.first then false else if refuses e.second then false else true) && refuses_none es
 
+-- what `refuses_none` says of a step's two events, a and b, and of all later steps, c
+pub refuses_none_parts : (a b c : Bool) → IsTrue ((if a then false else if b then false else true) && c) → (a ≡ false) × ((b ≡ false) × IsTrue c)
+refuses_none_parts a b c h = (search (rules, h), (search (rules, h), search (rules, h)))
+
 -- on every list of fitting steps from every initial value, no operation is refused, and each
 -- returned read is good
 abbrev pub Always : {P : Type 0} → (Returned → Type 0) → Behaviour P → Type 0
@@ -117,9 +120,3 @@ IsNotStray x = verdict x ≢ Stray
 abbrev pub Allowed : {U : Type 0} → (U → StepEvents → U → Type 0) → U → List StepEvents → Type 0
 Allowed Up u [] = Unit {0}
 Allowed {U = U} Up u (e ∷ es) = (z : U) × (Up u e z × Allowed Up z es)
-
--- the event of an operation's end
-abbrev pub end_event : ℕ → Outcome → Event
-end_event p (Value v) = Got p v
-end_event p Written = Wrote p
-end_event p (Spent layer) = Refused p layer

@@ -17,24 +17,24 @@ use Rattle.frames.specs.Placed.{placed_action, placed_bit}
 use Rattle.schedule_steps.specs.declared.types.Op.{Op}
 use Rattle.frames.specs.declared.types.Frame.{Frame}
 use Rattle.frames.specs.declared.types.StepEvents.{StepEvents}
-use Rattle.frames.specs.declared.config.Parked.{Parked}
+use Rattle.frames.specs.declared.config.ProcessState.{ProcessState}
 use Rattle.frames.specs.declared.running.Running.{Running}
 use Rattle.frames.specs.Behaviour.{Behaviour, IsLawful}
 use Rattle.frames.specs.Configuration.{Acted, initial_configuration, running_at, put_acted}
-use Rattle.frames.specs.Parked.{IsConfiguration, IsFlat, idle, marks_of, parked_configuration, stacks_of}
+use Rattle.frames.specs.StoredConfiguration.{IsConfiguration, IsFlat, idle, marks_of, stacked_configuration, stacks_of}
 use Rattle.frames.specs.Flat.{FramesGivePoint, HasStackEffect, IsReached, running_from, running_of, stack_of}
 use Rattle.frames.specs.laws.Steps.{initial_is_configuration, put_acted_keeps}
-use Rattle.frames.specs.laws.Flat.{set_running, length_running, none_running, slot_point, parked_eq, parked_decides, slot_by_frames}
+use Rattle.frames.specs.laws.Flat.{set_running, length_running, none_running, slot_point, process_eq, process_decides, slot_by_frames}
 
 module _ {R P : Type 0} (b : Behaviour P) (Holds : Memory → Type 0) (Reaches : ℕ → Op → P → Type 0) (find : ℕ → List Frame → Option P)
     (lawful : IsLawful b Holds Reaches) (gives_point : FramesGivePoint b Reaches find)
-    (r : R) (m : Memory) (stacks : List (List Frame)) (stopped : List Bool) (was : IsFlat b Holds Reaches (parked_configuration find r m stacks stopped) stacks) where
+    (r : R) (m : Memory) (stacks : List (List Frame)) (stopped : List Bool) (was : IsFlat b Holds Reaches (stacked_configuration find r m stacks stopped) stacks) where
   -- each process has a stack
   stack_there : (who : ℕ) → who < b.processes → who < length stacks
   stack_there who lt = let e = was.configuration.each in omega (arith, lt, e, length_running find 0 stacks)
 
   -- a process's stack has the frames of its pending operation
-  pub frames_are_on_stack : (who : ℕ) (x : List Frame) → who < b.processes → x ≡ get_or stacks who x → x ≡ stack_of b (running_at who (parked_configuration find r m stacks stopped))
+  pub frames_are_on_stack : (who : ℕ) (x : List Frame) → who < b.processes → x ≡ get_or stacks who x → x ≡ stack_of b (running_at who (stacked_configuration find r m stacks stopped))
   frames_are_on_stack who x lt is = is ∙ sym (get_or_default stacks who [] x (stack_there who lt)) ∙ was.flat who
 
   -- putting in the stack of a pending operation puts in that operation
@@ -48,13 +48,13 @@ module _ {R P : Type 0} (b : Behaviour P) (Holds : Memory → Type 0) (Reaches :
 
   module _ (who : ℕ) (done : Acted P) (step_events : StepEvents) (stack : List Frame) (m' : Memory) (acts : HasStackEffect b done step_events stack m') (there : IsReached Reaches who done.running) where
     -- putting in the new stack and memory gives the configuration after the step's effect
-    pub put_gives_effect : parked_configuration find r m' (set stacks who stack) stopped ≡ put_acted who done (parked_configuration find r m stacks stopped)
+    pub put_gives_effect : stacked_configuration find r m' (set stacks who stack) stopped ≡ put_acted who done (stacked_configuration find r m stacks stopped)
     put_gives_effect = λ i. record { register = r; memory = acts.memory i; running = put_running who done.running stack there acts.stack i; stopped = stopped }
 
-    pub put_flat : who < b.processes → Holds done.memory → IsFlat b Holds Reaches (parked_configuration find r m' (set stacks who stack) stopped) (set stacks who stack)
+    pub put_flat : who < b.processes → Holds done.memory → IsFlat b Holds Reaches (stacked_configuration find r m' (set stacks who stack) stopped) (set stacks who stack)
     put_flat lt holds = record {
-      configuration = subst (IsConfiguration b Holds Reaches) (sym put_gives_effect) (put_acted_keeps b Holds Reaches lawful (parked_configuration find r m stacks stopped) who done was.configuration lt holds there);
-      flat = λ q. elim (cases_eq q who) as (λ _. get_or (set stacks who stack) q [] ≡ stack_of b (running_at q (parked_configuration find r m' (set stacks who stack) stopped))) [
+      configuration = subst (IsConfiguration b Holds Reaches) (sym put_gives_effect) (put_acted_keeps b Holds Reaches lawful (stacked_configuration find r m stacks stopped) who done was.configuration lt holds there);
+      flat = λ q. elim (cases_eq q who) as (λ _. get_or (set stacks who stack) q [] ≡ stack_of b (running_at q (stacked_configuration find r m' (set stacks who stack) stopped))) [
         | inl same ↦ rw (same, get_or-set_same stacks who stack [] (stack_there who lt))
             (acts.stack ∙ ap (stack_of b) (sym (ap (λ l. get_or l who None) (put_running who done.running stack there acts.stack)
             ∙ get_or-set_same (running_from find 0 stacks) who done.running None (subst (λ n. who < n) (sym was.configuration.each) lt))))
@@ -66,7 +66,7 @@ module _ {R P : Type 0} (b : Behaviour P) (Holds : Memory → Type 0) (Reaches :
 
 -- the initial configuration, in which no process has a frame
 module _ {R P : Type 0} (b : Behaviour P) (Holds : Memory → Type 0) (Reaches : ℕ → Op → P → Type 0) (find : ℕ → List Frame → Option P)
-    (lawful : IsLawful b Holds Reaches) (r : R) (v : ℕ) (lt : v < b.values) (m : Memory) (processes : List Parked)
+    (lawful : IsLawful b Holds Reaches) (r : R) (v : ℕ) (lt : v < b.values) (m : Memory) (processes : List ProcessState)
     (at_m : m ≡ b.initial v) (at_rest : processes ≡ replicate b.processes idle) where
   idle_stacks : (n : ℕ) → stacks_of (replicate n idle) ≡ replicate n []
   idle_stacks zero = refl
@@ -85,7 +85,7 @@ module _ {R P : Type 0} (b : Behaviour P) (Holds : Memory → Type 0) (Reaches :
   first_running : running_from find 0 (stacks_of processes) ≡ replicate b.processes None
   first_running = ap (running_from find 0) at_stacks ∙ none_running find 0 b.processes
 
-  pub first_is_initial : parked_configuration find r m (stacks_of processes) (marks_of processes) ≡ initial_configuration b r v
+  pub first_is_initial : stacked_configuration find r m (stacks_of processes) (marks_of processes) ≡ initial_configuration b r v
   first_is_initial = λ i. record { register = r; memory = at_m i; running = first_running i; stopped = at_stopped i }
 
   idle_stack_at : (n p : ℕ) → get_or (replicate n []) p [] ≡ stack_of b (get_or (replicate n None) p None)
@@ -93,7 +93,7 @@ module _ {R P : Type 0} (b : Behaviour P) (Holds : Memory → Type 0) (Reaches :
   idle_stack_at (suc n) zero = refl
   idle_stack_at (suc n) (suc p) = idle_stack_at n p
 
-  pub first_flat : IsFlat b Holds Reaches (parked_configuration find r m (stacks_of processes) (marks_of processes)) (stacks_of processes)
+  pub first_flat : IsFlat b Holds Reaches (stacked_configuration find r m (stacks_of processes) (marks_of processes)) (stacks_of processes)
   first_flat = record {
     configuration = initial_is_configuration b Holds Reaches lawful r v m (running_from find 0 (stacks_of processes)) (marks_of processes) lt at_m first_running at_stopped;
     flat = λ p. ap (λ l. get_or l p []) at_stacks ∙ idle_stack_at b.processes p ∙ sym (ap (λ l. stack_of b (get_or l p None)) first_running);
@@ -124,22 +124,22 @@ bit_at_origin None = refl
 bit_at_origin (Some bit) = ap (λ n. Some (n, bit.1)) (zero-add bit.0)
 
 -- processes are equal if their stacks and marks are
-same_parked : (xs ys : List Parked) → stacks_of xs ≡ stacks_of ys → marks_of xs ≡ marks_of ys → xs ≡ ys
-same_parked [] [] s t = refl
-same_parked [] (y ∷ ys) s t = cc
-same_parked (x ∷ xs) [] s t = cc
-same_parked (x ∷ xs) (y ∷ ys) s t =
+same_processes : (xs ys : List ProcessState) → stacks_of xs ≡ stacks_of ys → marks_of xs ≡ marks_of ys → xs ≡ ys
+same_processes [] [] s t = refl
+same_processes [] (y ∷ ys) s t = cc
+same_processes (x ∷ xs) [] s t = cc
+same_processes (x ∷ xs) (y ∷ ys) s t =
     let stack : x.stack ≡ y.stack = cc in
     let stopped : x.stopped ≡ y.stopped = cc in
     let stacks : stacks_of xs ≡ stacks_of ys = cc in
     let marks : marks_of xs ≡ marks_of ys = cc in
-    let rest = same_parked xs ys stacks marks in
+    let rest = same_processes xs ys stacks marks in
     λ i. record { stack = stack i; stopped = stopped i } ∷ rest i
 
 -- two configurations have equal stacks if their pending operations are equal
 module _ {R P : Type 0} (is : R → Behaviour P) (Holds : R → Memory → Type 0) (Reaches : R → ℕ → Op → P → Type 0) (find : R → ℕ → List Frame → Option P)
     (r r' : R) (alike : is r ≡ is r') (m m' : Memory) (stacks stacks' : List (List Frame)) (stopped stopped' : List Bool)
-    (was : IsFlat (is r) (Holds r) (Reaches r) (parked_configuration (find r) r m stacks stopped) stacks) (was' : IsFlat (is r') (Holds r') (Reaches r') (parked_configuration (find r') r' m' stacks' stopped') stacks')
+    (was : IsFlat (is r) (Holds r) (Reaches r) (stacked_configuration (find r) r m stacks stopped) stacks) (was' : IsFlat (is r') (Holds r') (Reaches r') (stacked_configuration (find r') r' m' stacks' stopped') stacks')
     (s : running_from (find r) 0 stacks ≡ running_from (find r') 0 stacks') where
   at_place : length stacks ≡ length stacks' → (k : ℕ) (x : List Frame) → k < length stacks → get_or stacks k x ≡ get_or stacks' k x
   at_place as_many k x lt =
@@ -157,29 +157,29 @@ module _ {R P : Type 0} (is : R → Behaviour P) (Holds : R → Memory → Type 
 -- configurations are equal exactly if their registers, memories, stacks and stop marks are
 pub same_decided : {R P : Type 0} (is : R → Behaviour P) (Holds : R → Memory → Type 0) (Reaches : R → ℕ → Op → P → Type 0) (find : R → ℕ → List Frame → Option P)
     (E : R → R → Bool) (alike : (a b : R) → E a b ≡ true → is a ≡ is b) (finds_alike : (a b : R) → E a b ≡ true → find a ≡ find b)
-    (r r' : R) (m m' : Memory) (ps ps' : List Parked)
-    → IsFlat (is r) (Holds r) (Reaches r) (parked_configuration (find r) r m (stacks_of ps) (marks_of ps)) (stacks_of ps)
-    → IsFlat (is r') (Holds r') (Reaches r') (parked_configuration (find r') r' m' (stacks_of ps') (marks_of ps')) (stacks_of ps')
-    → Decides (E r r' && (memory_eq m m' && pointwise parked_eq ps ps'))
-    (SameConfiguration E (parked_configuration (find r) r m (stacks_of ps) (marks_of ps)) (parked_configuration (find r') r' m' (stacks_of ps') (marks_of ps')))
+    (r r' : R) (m m' : Memory) (ps ps' : List ProcessState)
+    → IsFlat (is r) (Holds r) (Reaches r) (stacked_configuration (find r) r m (stacks_of ps) (marks_of ps)) (stacks_of ps)
+    → IsFlat (is r') (Holds r') (Reaches r') (stacked_configuration (find r') r' m' (stacks_of ps') (marks_of ps')) (stacks_of ps')
+    → Decides (E r r' && (memory_eq m m' && pointwise process_eq ps ps'))
+    (SameConfiguration E (stacked_configuration (find r) r m (stacks_of ps) (marks_of ps)) (stacked_configuration (find r') r' m' (stacks_of ps') (marks_of ps')))
 same_decided is Holds Reaches find E alike finds_alike r r' m m' ps ps' was was' =
     Decides-like _
     (λ p. record { register = p.0; memory = p.1.0; running = λ i. running_from (finds_alike r r' p.0 i) 0 (stacks_of (p.1.1 i)); stopped = ap marks_of p.1.1 })
-    (λ s. (s.register, (s.memory, same_parked ps ps' (stacks_from s) s.stopped)))
+    (λ s. (s.register, (s.memory, same_processes ps ps' (stacks_from s) s.stopped)))
     (Decides-and (E r r') _ (λ h. h, λ h. h)
-    (Decides-and (memory_eq m m') _ (memory_decides m m') (slice_eq-Decides parked_decides ps ps' _ refl)))
+    (Decides-and (memory_eq m m') _ (memory_decides m m') (slice_eq-Decides process_decides ps ps' _ refl)))
   where
-    stacks_from : SameConfiguration E (parked_configuration (find r) r m (stacks_of ps) (marks_of ps)) (parked_configuration (find r') r' m' (stacks_of ps') (marks_of ps')) → stacks_of ps ≡ stacks_of ps'
+    stacks_from : SameConfiguration E (stacked_configuration (find r) r m (stacks_of ps) (marks_of ps)) (stacked_configuration (find r') r' m' (stacks_of ps') (marks_of ps')) → stacks_of ps ≡ stacks_of ps'
     stacks_from s =
         same_stacks is Holds Reaches find r r' (alike r r' s.register) m m' (stacks_of ps) (stacks_of ps') (marks_of ps) (marks_of ps') was was' s.running
 
 -- a test that compares registers, memories and processes decides equality of configurations
 pub same_decided_by_test : {R P : Type 0} {is : R → Behaviour P} (Holds : R → Memory → Type 0) (Reaches : R → ℕ → Op → P → Type 0) {find : R → ℕ → List Frame → Option P}
     {E : R → R → Bool} (alike : (a b : R) → E a b ≡ true → is a ≡ is b) (finds_alike : (a b : R) → E a b ≡ true → find a ≡ find b)
-    {r r' : R} {m m' : Memory} (ps ps' : List Parked)
-    → IsFlat (is r) (Holds r) (Reaches r) (parked_configuration (find r) r m (stacks_of ps) (marks_of ps)) (stacks_of ps)
-    → IsFlat (is r') (Holds r') (Reaches r') (parked_configuration (find r') r' m' (stacks_of ps') (marks_of ps')) (stacks_of ps')
-    → (t : Bool) → t ≡ (E r r' && (memory_eq m m' && pointwise parked_eq ps ps'))
-    → Decides t (SameConfiguration E (parked_configuration (find r) r m (stacks_of ps) (marks_of ps)) (parked_configuration (find r') r' m' (stacks_of ps') (marks_of ps')))
+    {r r' : R} {m m' : Memory} (ps ps' : List ProcessState)
+    → IsFlat (is r) (Holds r) (Reaches r) (stacked_configuration (find r) r m (stacks_of ps) (marks_of ps)) (stacks_of ps)
+    → IsFlat (is r') (Holds r') (Reaches r') (stacked_configuration (find r') r' m' (stacks_of ps') (marks_of ps')) (stacks_of ps')
+    → (t : Bool) → t ≡ (E r r' && (memory_eq m m' && pointwise process_eq ps ps'))
+    → Decides t (SameConfiguration E (stacked_configuration (find r) r m (stacks_of ps) (marks_of ps)) (stacked_configuration (find r') r' m' (stacks_of ps') (marks_of ps')))
 same_decided_by_test {is = is} Holds Reaches {find = find} {E = E} alike finds_alike {r} {r'} {m} {m'} ps ps' was was' t e =
     Decides-at _ _ e (same_decided is Holds Reaches find E alike finds_alike r r' m m' ps ps' was was')

@@ -8,38 +8,38 @@ use Rattle.schedule_steps.specs.declared.types.Op.{Op}
 use Rattle.frames.specs.declared.types.Event.{Event}
 use Rattle.frames.specs.declared.types.Frame.{Frame}
 use Rattle.frames.specs.declared.types.StepEvents.{StepEvents}
-use Rattle.frames.specs.declared.config.Parked.{Parked}
+use Rattle.frames.specs.declared.config.ProcessState.{ProcessState}
 use Rattle.frames.specs.declared.running.Running.{Running}
 use Rattle.frames.specs.Behaviour.{Behaviour, IsLawful}
 use Rattle.frames.specs.Configuration.{Acted, Configuration, running_at, put_acted, only_records, going, invoking}
-use Rattle.frames.specs.Parked.{IsFlat, marks_of, parked_configuration, stacks_of}
+use Rattle.frames.specs.StoredConfiguration.{IsFlat, marks_of, stacked_configuration, stacks_of}
 use Rattle.frames.specs.Flat.{FramesGivePoint, HasStackEffect, IsReached, running_from, stack_of}
 use Rattle.frames.specs.laws.Steps.{LeavesWell, going_well, invoking_well}
 use Rattle.frames.proofs.Stacks.{frames_are_on_stack, put_gives_effect, put_flat}
 
 module _ {R P : Type 0} {b : Behaviour P} {Holds : Memory → Type 0} {Reaches : ℕ → Op → P → Type 0} {find : ℕ → List Frame → Option P}
     (lawful : IsLawful b Holds Reaches) (gives_point : FramesGivePoint b Reaches find)
-    {r : R} {m : Memory} (ps : List Parked) (was : IsFlat b Holds Reaches (parked_configuration find r m (stacks_of ps) (marks_of ps)) (stacks_of ps))
+    {r : R} {m : Memory} (ps : List ProcessState) (was : IsFlat b Holds Reaches (stacked_configuration find r m (stacks_of ps) (marks_of ps)) (stacks_of ps))
     (who : ℕ) (lt : who < b.processes) where
   -- the configuration before the step, and what process `who` has pending in it
   abbrev before : Configuration R P
-  before = parked_configuration find r m (stacks_of ps) (marks_of ps)
+  before = stacked_configuration find r m (stacks_of ps) (marks_of ps)
 
   abbrev slot : Option (Running P)
   slot = running_at who before
 
   -- a step has the effect `done`: it records these events, and leaves the processes `now` and the
   -- memory m'
-  pub record HasEffect (done : Acted P) (step_events : StepEvents) (now : List Parked) (m' : Memory) : Type 0 where
+  pub record HasEffect (done : Acted P) (step_events : StepEvents) (now : List ProcessState) (m' : Memory) : Type 0 where
     pub events : step_events ≡ done.events
-    pub flat : IsFlat b Holds Reaches (parked_configuration find r m' (stacks_of now) (marks_of now)) (stacks_of now)
-    pub after : parked_configuration find r m' (stacks_of now) (marks_of now) ≡ put_acted who done before
+    pub flat : IsFlat b Holds Reaches (stacked_configuration find r m' (stacks_of now) (marks_of now)) (stacks_of now)
+    pub after : stacked_configuration find r m' (stacks_of now) (marks_of now) ≡ put_acted who done before
 
   -- a configuration is still flat after only stop marks have changed
-  pub marked_flat : (now : List Parked) → stacks_of now ≡ stacks_of ps → marks_of now ≡ set (marks_of ps) who true
-      → IsFlat b Holds Reaches (parked_configuration find r m (stacks_of now) (marks_of now)) (stacks_of now)
+  pub marked_flat : (now : List ProcessState) → stacks_of now ≡ stacks_of ps → marks_of now ≡ set (marks_of ps) who true
+      → IsFlat b Holds Reaches (stacked_configuration find r m (stacks_of now) (marks_of now)) (stacks_of now)
   marked_flat now stacks marks =
-      subst (λ l. IsFlat b Holds Reaches (parked_configuration find r m l (marks_of now)) l) (sym stacks)
+      subst (λ l. IsFlat b Holds Reaches (stacked_configuration find r m l (marks_of now)) l) (sym stacks)
       (record {
         configuration = record {
           holds = was.configuration.holds;
@@ -50,17 +50,17 @@ module _ {R P : Type 0} {b : Behaviour P} {Holds : Memory → Type 0} {Reaches :
         flat = was.flat;
       })
 
-  pub mark_gives_effect : (event : Event) (now : List Parked) → stacks_of now ≡ stacks_of ps
+  pub mark_gives_effect : (event : Event) (now : List ProcessState) → stacks_of now ≡ stacks_of ps
       → marks_of now ≡ set (marks_of ps) who true
-      → parked_configuration find r m (stacks_of now) (marks_of now) ≡ put_acted who (only_records event slot m)
+      → stacked_configuration find r m (stacks_of now) (marks_of now) ≡ put_acted who (only_records event slot m)
       (record before { stopped = set before.stopped who true })
   mark_gives_effect event now stacks marks =
       let same = ap (running_from find 0) stacks ∙ sym (set-get_or (running_from find 0 (stacks_of ps)) who None) in
       λ i. record before { running = same i; stopped = marks i }
 
-  module _ (p : Parked) (is : p ≡ get_or ps who p) where
+  module _ (p : ProcessState) (is : p ≡ get_or ps who p) where
     -- the processes, with this stack for process `who`
-    abbrev with_stack : List Frame → List Parked
+    abbrev with_stack : List Frame → List ProcessState
     with_stack stack = set ps who (record { stack = stack; stopped = p.stopped })
 
     stacks_put : (stack : List Frame) → stacks_of (with_stack stack) ≡ set (stacks_of ps) who stack
@@ -73,10 +73,10 @@ module _ {R P : Type 0} {b : Behaviour P} {Holds : Memory → Type 0} {Reaches :
         → HasEffect done step_events (with_stack stack) m'
     has_effect done step_events stack m' acts well = record {
       events = acts.events;
-      flat = subst (λ k. IsFlat b Holds Reaches (parked_configuration find r m' (stacks_of (with_stack stack)) k) (stacks_of (with_stack stack))) (sym (marks_stay stack))
-          (subst (λ l. IsFlat b Holds Reaches (parked_configuration find r m' l (marks_of ps)) l) (sym (stacks_put stack))
+      flat = subst (λ k. IsFlat b Holds Reaches (stacked_configuration find r m' (stacks_of (with_stack stack)) k) (stacks_of (with_stack stack))) (sym (marks_stay stack))
+          (subst (λ l. IsFlat b Holds Reaches (stacked_configuration find r m' l (marks_of ps)) l) (sym (stacks_put stack))
           (put_flat b Holds Reaches find lawful gives_point r m (stacks_of ps) (marks_of ps) was who done step_events stack m' acts well.reached lt well.holds));
-      after = (λ i. parked_configuration find r m' (stacks_put stack i) (marks_stay stack i))
+      after = (λ i. stacked_configuration find r m' (stacks_put stack i) (marks_stay stack i))
           ∙ put_gives_effect b Holds Reaches find lawful gives_point r m (stacks_of ps) (marks_of ps) was who done step_events stack m' acts well.reached;
     }
 

@@ -5,6 +5,7 @@ use Rattle.schedule_steps.specs.declared.types.Op.{Op}
 use Rattle.schedule_steps.specs.declared.types.Op.TheVariants as op
 use Rattle.schedule_steps.specs.declared.types.Step.{Step}
 use Rattle.schedule_steps.specs.declared.types.Step.TheVariants as step
+use Rattle.frames.specs.declared.types.Outcome.{Outcome}
 use Rattle.frames.specs.declared.types.Outcome.TheVariants.{Value, Written, Spent}
 use Rattle.frames.specs.declared.types.Next.{Next}
 use Rattle.frames.specs.declared.types.Next.TheVariants.{Pending, Done}
@@ -14,7 +15,7 @@ use Rattle.frames.specs.declared.types.Event.TheVariants.{Invoke, Got, Wrote, Re
 use Rattle.frames.specs.declared.types.StepEvents.{StepEvents}
 use Rattle.frames.specs.declared.running.Running.{Running}
 use Rattle.frames.specs.Behaviour.{Behaviour}
-use Rattle.frames.specs.Fitting.{roles_of, step_fits}
+use Rattle.frames.specs.Fitting.{roles_of, fits_roles}
 use Rattle.schedule_steps.specs.Steps.{process_of}
 
 -- a configuration: the register, its cells and words, each process's pending operation, if any, and
@@ -38,11 +39,9 @@ is_stopped p c = slice_index_or c.stopped p false
 abbrev pub initial_configuration : {R P : Type 0} → Behaviour P → R → ℕ → Configuration R P
 initial_configuration b r v = record { register = r; memory = b.initial v; running = replicate b.processes None; stopped = replicate b.processes false }
 
--- Whether a step fits the register. An invocation fits if its operation fits its process; for a
--- write, this can depend on the value. A bit action fits if its process exists and the choice is 0
--- or 1. A stop fits if its process exists.
+-- whether a step fits the register, as `fits_roles` says of the register's roles
 abbrev pub fits_step : {P : Type 0} → Behaviour P → Step → Bool
-fits_step b s = step_fits (roles_of b) s
+fits_step b s = fits_roles (roles_of b) s
 
 -- the effect of a step: its events, the operation that its process has pending afterwards, if any,
 -- and the memory afterwards
@@ -51,12 +50,17 @@ pub record Acted (P : Type 0) : Type 0 where
   pub running : Option (Running P)
   pub memory : Memory
 
--- the event that records the end of process `who`'s operation; `None` if it is still pending
+-- the event that records that process `who`'s operation ends with this outcome
+abbrev pub end_event : ℕ → Outcome → Event
+end_event who (Value v) = Got who v
+end_event who Written = Wrote who
+end_event who (Spent layer) = Refused who layer
+
+-- the event that records the return or refusal of process `who`'s operation; `None` if it is still
+-- pending
 abbrev pub return_of : {P : Type 0} → ℕ → Next P → Option Event
 return_of who (Pending p) = None
-return_of who (Done (Value v)) = Some (Got who v)
-return_of who (Done Written) = Some (Wrote who)
-return_of who (Done (Spent layer)) = Some (Refused who layer)
+return_of who (Done outcome) = Some (end_event who outcome)
 
 -- operation o, at the point that it has reached; `None` if it has ended
 abbrev pub still_running : {P : Type 0} → Op → Next P → Option (Running P)

@@ -19,8 +19,8 @@ roles_of b = record { processes = b.processes; suits = b.suits }
 -- Whether a step fits a register with these roles. An invocation fits if its operation fits its
 -- process; for a write, this can depend on the value. A bit action fits if its process exists and
 -- the choice is 0 or 1. A stop fits if its process exists.
-abbrev pub step_fits : Roles → Step → Bool
-step_fits roles (step.Write p v) = roles.suits p (op.Write v)
-step_fits roles (step.Read p) = roles.suits p op.Read
-step_fits roles (step.Go p c) = nat_lt p roles.processes && nat_lt c 2
-step_fits roles (step.Stop p) = nat_lt p roles.processes
+abbrev pub fits_roles : Roles → Step → Bool
+fits_roles roles (step.Write p v) = roles.suits p (op.Write v)
+fits_roles roles (step.Read p) = roles.suits p op.Read
+fits_roles roles (step.Go p c) = nat_lt p roles.processes && nat_lt c 2
+fits_roles roles (step.Stop p) = nat_lt p roles.processes

@@ -7,28 +7,25 @@ use Rattle.safe_bit.specs.Memory.{Memory}
 use Rattle.safe_bit.specs.Parts.{with_part}
 use Rattle.schedule_steps.specs.declared.types.Op.{Op}
 use Rattle.frames.specs.declared.types.Outcome.{Outcome}
-use Rattle.frames.specs.declared.types.Outcome.TheVariants.{Value, Written, Spent}
 use Rattle.frames.specs.declared.types.Next.{Next}
 use Rattle.frames.specs.declared.types.Next.TheVariants.{Pending, Done}
 use Rattle.frames.specs.declared.types.Event.{Event}
-use Rattle.frames.specs.declared.types.Event.TheVariants.{Got, Wrote, Refused}
 use Rattle.frames.specs.declared.types.Frame.{Frame}
 use Rattle.frames.specs.declared.running.Running.{Running}
 use Rattle.frames.specs.declared.types.StepEvents.{StepEvents}
 use Rattle.frames.specs.Behaviour.{Behaviour, Answers, ReachedOrAnswered}
-use Rattle.frames.specs.Configuration.{Acted}
+use Rattle.frames.specs.Configuration.{Acted, end_event}
 
 -- the outcome of an operation; `None` if it hasn't ended
 abbrev pub outcome_of : {P : Type 0} → Next P → Option Outcome
 outcome_of (Pending p) = None
 outcome_of (Done o) = Some o
 
--- the event that records the end of process `who`'s operation; `None` if it hasn't ended
+-- the event that records that process `who`'s operation ends with this outcome, if it has one;
+-- `None` if the operation hasn't ended
 abbrev pub end_of : ℕ → Option Outcome → Option Event
 end_of who None = None
-end_of who (Some (Value v)) = Some (Got who v)
-end_of who (Some Written) = Some (Wrote who)
-end_of who (Some (Spent layer)) = Some (Refused who layer)
+end_of who (Some outcome) = Some (end_event who outcome)
 
 -- the frames of an operation; no frames if it has ended
 abbrev pub left_frames : {P : Type 0} → (P → List Frame) → Next P → List Frame

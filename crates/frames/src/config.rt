@@ -6,7 +6,7 @@ ghost use Rattle.std.specs.Option.{option_map};
 ghost use Rattle.safe_bit.specs.Memory.{Memory};
 ghost use Rattle.frames.specs.Configuration.{running_at, is_stopped, initial_configuration, fits_step, events_of, stepped, with_stop_mark, only_records, acting, invoking, going, HasStepEffect};
 ghost use Rattle.schedule_steps.specs.Steps.{process_of};
-ghost use Rattle.frames.specs.Parked.{IsConfiguration, idle, stacks_of, marks_of};
+ghost use Rattle.frames.specs.StoredConfiguration.{IsConfiguration, idle, stacks_of, marks_of};
 ghost use Rattle.frames.specs.Flat.{stack_of};
 
 use crate::flat::FlatStack;
@@ -24,44 +24,44 @@ use std::marker::Model;
 pub struct Config<R: Register> {
     register: R,
     store: Store,
-    processes: Vec<Parked>,
+    processes: Vec<ProcessState>,
 }
 
 /// A process: the frames of its pending operation, and whether it has stopped.
 #[derive(Drop)]
-struct Parked {
+struct ProcessState {
     stack: FlatStack,
     stopped: bool,
 }
 
-impl PartialEq for Parked {
-    ghost use Rattle.frames.specs.laws.Flat.{parked_eq, parked_per};
+impl PartialEq for ProcessState {
+    ghost use Rattle.frames.specs.laws.Flat.{process_eq, process_per};
 
-    ghost eq = { parked_eq };
+    ghost eq = { process_eq };
 
-    ghost laws = { parked_per };
+    ghost laws = { process_per };
 
-    fn eq(&self, other: &Parked) -> bool {
+    fn eq(&self, other: &ProcessState) -> bool {
         self.stack == other.stack && self.stopped == other.stopped
     }
 }
 
-impl Parked {
+impl ProcessState {
     /// A process that has no operation pending and hasn't stopped.
-    fn idle() -> Parked
+    fn idle() -> ProcessState
         ensures { result ≡ idle }
     {
-        Parked {
+        ProcessState {
             stack: FlatStack::new(),
             stopped: false,
         }
     }
 
     /// An equal copy.
-    fn copy(&self) -> Parked
+    fn copy(&self) -> ProcessState
         ensures { result ≡ self.now }
     {
-        Parked {
+        ProcessState {
             stack: self.stack.copy(),
             stopped: self.stopped,
         }
@@ -70,16 +70,16 @@ impl Parked {
 
 impl<R: Register> Model for Config<R> {
     ghost use Rattle.frames.specs.Configuration.{Configuration};
-    ghost use Rattle.frames.specs.Parked.{IsFlat, parked_configuration, stacks_of, marks_of};
+    ghost use Rattle.frames.specs.StoredConfiguration.{IsFlat, stacked_configuration, stacks_of, marks_of};
 
     ghost Value = { Configuration R R.Pending };
 
-    ghost view = { λ c. parked_configuration (R.point c.register) c.register c.store
+    ghost view = { λ c. stacked_configuration (R.point c.register) c.register c.store
         (stacks_of c.processes.items) (marks_of c.processes.items) };
 
     ghost invariant = { λ c. IsFlat (R.behaviour c.register) (R.Holds c.register)
         (R.Reaches c.register)
-        (parked_configuration (R.point c.register) c.register c.store
+        (stacked_configuration (R.point c.register) c.register c.store
         (stacks_of c.processes.items) (marks_of c.processes.items))
         (stacks_of c.processes.items) };
 }
@@ -149,9 +149,7 @@ impl<R: Register> Config<R> {
         &self.store
     }
 
-    /// Whether the step fits the register. An invocation fits if its operation fits its process. A
-    /// bit action fits if its process exists and the choice is 0 or 1. A stop fits if its process
-    /// exists.
+    /// Whether the step fits the register, as `roles::step_fits` says.
     pub fn fits(&self, step: Step) -> bool
         ensures { result ≡ fits_step (R.behaviour self.now.register) step }
     {
@@ -228,7 +226,7 @@ impl<R: Register> Config<R> {
         self.act(step)
     }
 
-    /// Whether process `who` has stopped.
+    /// Whether process `who`, which must exist, has stopped.
     #[inline(always)]
     fn has_stopped(&self, who: u32) -> bool
         requires { who < (R.behaviour self.now.register).processes }
@@ -291,7 +289,7 @@ impl<R: Register> Config<R> {
 }
 
 /// Marks process `who` as stopped; its operation stays pending.
-fn mark_stopped(processes: &mut [Parked], who: u32)
+fn mark_stopped(processes: &mut [ProcessState], who: u32)
     requires { who < length processes.old }
     ensures stacks { stacks_of processes.new ≡ stacks_of processes.old }
     ensures marks { marks_of processes.new ≡ slice_set (marks_of processes.old) who true }
@@ -300,18 +298,18 @@ fn mark_stopped(processes: &mut [Parked], who: u32)
 }
 
 /// A list of `processes` processes. None has an operation pending, and none has stopped.
-fn all_idle(alloc: Global, processes: u32) -> Result<Vec<Parked>, AllocError>
+fn all_idle(alloc: Global, processes: u32) -> Result<Vec<ProcessState>, AllocError>
     ensures { IfOk result (λ all. all.items ≡ replicate processes idle) }
 {
     let mut all = Vec::with_capacity(alloc, processes as usize)?;
     for _ in 0..processes {
-        all.push_reserved(Parked::idle());
+        all.push_reserved(ProcessState::idle());
     }
     Ok(all)
 }
 
 /// A copy of each process, in the same order.
-fn copies(alloc: Global, processes: &[Parked]) -> Result<Vec<Parked>, AllocError>
+fn copies(alloc: Global, processes: &[ProcessState]) -> Result<Vec<ProcessState>, AllocError>
     ensures { IfOk result (λ copied. copied.items ≡ processes.now) }
 {
     let mut copied = Vec::with_capacity(alloc, processes.len())?;

@@ -8,7 +8,7 @@ ghost use Rattle.schedule_steps.specs.declared.types.Op.{Op};
 ghost use Rattle.frames.specs.Others.{LeavesOthers};
 ghost use Rattle.schedule_steps.specs.declared.types.Step.{Step};
 ghost use Rattle.frames.specs.Configuration.{Configuration, fits_step, is_enabled, is_stopped, stepped, replayed};
-ghost use Rattle.frames.specs.Parked.{IsConfiguration};
+ghost use Rattle.frames.specs.StoredConfiguration.{IsConfiguration};
 ghost use Rattle.frames.specs.correctness.Regularity.{IsAtomic, IsRegular, IsSafe, NeverStray};
 ghost use Rattle.frames.specs.correctness.ReportedActions.{ReportsActions};
 ghost use Rattle.frames.specs.Voids.{IsVoid, StaysStopped};

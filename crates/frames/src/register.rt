@@ -234,7 +234,7 @@ pub trait Register: Behaves + Copy + Eq {
     }
 
     /// A process that can have this operation pending; the stack has the operation's frames.
-    fn process(&self, stack: &FlatStack, pending: &Self::Pending) -> u32
+    fn reaching_process(&self, stack: &FlatStack, pending: &Self::Pending) -> u32
         requires reached { (who : ℕ) × ((op : Op) × Reaches self.now who op pending.now) }
         requires there { stack.now ≡ (Self.behaviour self.now).frames pending.now }
         ensures { (op : Op) × Reaches self.now result op pending.now }

@@ -2,7 +2,7 @@
 //! fit each process.
 
 ghost use Rattle.std.specs.Prelude.{◌≡◌};
-ghost use Rattle.frames.specs.Fitting.{Roles, step_fits};
+ghost use Rattle.frames.specs.Fitting.{Roles, fits_roles};
 
 use crate::register::Register;
 use crate::types::{Op, Step};
@@ -40,7 +40,7 @@ impl<R: Register> HasRoles for R {
 /// fits if its operation fits its process; for a write, this can depend on the value. A bit action
 /// fits if its process exists and the choice is 0 or 1. A stop fits if its process exists.
 pub fn step_fits<T: HasRoles>(register: &T, step: Step) -> bool
-    ensures { result ≡ step_fits (T.roles register.now) step }
+    ensures { result ≡ fits_roles (T.roles register.now) step }
 {
     match step {
         Step::Write { p, v } => register.suits(p, Op::Write(v)),

@@ -14,10 +14,10 @@ use Rattle.frames.specs.declared.types.StepEvents.{StepEvents}
 use Rattle.frames.specs.declared.types.Step.{Step}
 use Rattle.frames.specs.Behaviour.{Behaviour}
 use Rattle.frames.specs.Configuration.{events_of, fits_step, replayed, history, in_order, chosen_of, return_of}
-use Rattle.frames.specs.Recorded.{AllFit, Alone, first_configuration}
-use Rattle.frames.proofs.Seen.{Seen, Returned, opening, got, after_step, read_in, reads, seen, refuses, refuses_none, Always, Allowed}
-use Rattle.frames.proofs.Reached.{Reached, history-append, fit-append}
-use Rattle.frames.proofs.JoinedLists.{all_left, all_right, two_false}
+use Rattle.frames.specs.Recorded.{AllFit, LoneConfiguration, first_configuration}
+use Rattle.frames.proofs.Seen.{Seen, Returned, opening, got, after_step, read_in, reads, seen, refuses, refuses_none, refuses_none_parts, Always, Allowed}
+use Rattle.frames.proofs.Replayed.{IsReplayed, history-push, fit-push}
+use Rattle.frames.proofs.JoinedLists.{all_left, all_right}
 use Rattle.layers.proofs.Law.{Admission, takes_all}
 
 -- `Says` holds of the operation that this event invokes, if any
@@ -52,14 +52,14 @@ module _ (Good : Returned → Type 0) (a : Admission) where
   last_admitted s (d ∷ es) e h = last_admitted (after_step d s) es e (subst (λ z. Allowed (Admits Good a) z (es ++ e ∷ [])) h.1.0.1 h.1.1)
 
   -- the events of one more fitting step are as the register promises
-  pub reached_admitted : {P : Type 0} (b : Behaviour P) (v : ℕ) (c : Alone P) (s : Seen) (step : Step) → AlwaysAdmits Good a b → v < b.values → Reached b v c s → fits_step b step ≡ true
+  pub reached_admitted : {P : Type 0} (b : Behaviour P) (v : ℕ) (c : LoneConfiguration P) (s : Seen) (step : Step) → AlwaysAdmits Good a b → v < b.values → IsReplayed b v c s → fits_step b step ≡ true
       → IsAdmitted Good a s (events_of b c step)
   reached_admitted b v c s step all l h f =
       let first = first_configuration b v in
       let e : StepEvents = events_of b (replayed b first h.steps) step in
-      let k = all v (h.steps ++ step ∷ []) l (fit-append b h.steps step h.fit f) in
+      let k = all v (h.steps ++ step ∷ []) l (fit-push b h.steps step h.fit f) in
       let w : IsAdmitted Good a (seen (opening v) (history b first h.steps)) e =
-      last_admitted (opening v) (history b first h.steps) e (subst (Allowed (Admits Good a) (opening v)) (history-append b h.steps step first) k) in
+      last_admitted (opening v) (history b first h.steps) e (subst (Allowed (Admits Good a) (opening v)) (history-push b h.steps step first) k) in
       subst (λ x. IsAdmitted Good a s (events_of b x step)) h.leads (subst (λ z. IsAdmitted Good a z e) h.reports w)
 
   -- a pending operation isn't refused, and a read that it returns is good
@@ -94,7 +94,7 @@ history_admitted : (Good : Returned → Type 0) (a : Admission) → ((o : Op) (s
     → Allowed (Admits Good a) s es
 history_admitted Good a all s [] f g = tt
 history_admitted Good a all s (e ∷ es) f g =
-    let n = two_false (refuses e.first) (refuses e.second) (refuses_none es) f in (
+    let n = refuses_none_parts (refuses e.first) (refuses e.second) (refuses_none es) f in (
       after_step e s,
       (
         (

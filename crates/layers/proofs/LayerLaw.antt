@@ -10,12 +10,12 @@ use Rattle.frames.specs.declared.types.StepEvents.{StepEvents}
 use Rattle.frames.specs.declared.types.Step.{Step}
 use Rattle.layers.specs.declared.nested.Nested.{Nested}
 use Rattle.frames.specs.Configuration.{running_at, history, events_of, fits_step, replayed}
-use Rattle.frames.specs.Recorded.{Alone, AllFit, first_configuration}
+use Rattle.frames.specs.Recorded.{LoneConfiguration, AllFit, first_configuration}
 use Rattle.frames.proofs.Seen.{Seen, Returned, opening, Always, Allowed}
 use Rattle.frames.specs.OneWriter.{HasOneWriter}
 use Rattle.frames.specs.correctness.Verdicts.{Known}
 use Rattle.frames.specs.correctness.Regularity.{AlwaysReads}
-use Rattle.frames.proofs.Reached.{reached_first}
+use Rattle.frames.proofs.Replayed.{replayed_at_first}
 use Rattle.frames.proofs.KnownAndSeen.{Alike}
 use Rattle.frames.proofs.OneWriterPromises.{always_known, always_seen}
 use Rattle.layers.specs.Nested.{part_place, own_words_start, layered, layer_initial, gathered}
@@ -38,7 +38,7 @@ pub good_passes : {Task : Type 0} (w : Watch Task Seen) (Good : Returned → Typ
 good_passes w Good = record { void = good_void Good; stop = good_stop Good; still = λ u j p chosen h. (u, (good_gone Good p chosen None u refl tt, h)) }
 
 -- what is known in configuration c, before step s, and after the step
-pub record NextStep {Task P U : Type 0} (l : LayerOver Task P) (w : Watch Task U) (Up : U → StepEvents → U → Type 0) (c : Alone (Nested Task P)) (s : Step) : Type 0 where
+pub record NextStep {Task P U : Type 0} (l : LayerOver Task P) (w : Watch Task U) (Up : U → StepEvents → U → Type 0) (c : LoneConfiguration (Nested Task P)) (s : Step) : Type 0 where
   -- what is known of the layer's history, and the view, before the step
   pub u : U
   pub j : View Task
@@ -79,7 +79,7 @@ module _ {Task P : Type 0} (l : LayerOver Task P) (user : ℕ → ℕ → ℕ) (
       → (v : ℕ) → v < l.table.values → Joint l user (l.table.first v) w (first_configuration (layered l.table l.below) v) (first v)
   first_joint w rule first Up K v lt =
       let value : ℕ → ℕ = l.table.first v in
-      let c : Alone (Nested Task P) = first_configuration (layered l.table l.below) v in
+      let c : LoneConfiguration (Nested Task P) = first_configuration (layered l.table l.below) v in
       let idle : (p : ℕ) → task_in_progress (running_at p c) ≡ None = λ p. ap task_in_progress (none_pending_at l.table.processes p) in
       let j : View Task = record { words = λ i. word_at (own_words_start l.table l.below.size + i) c.memory; tasks = λ p. task_in_progress (running_at p c); parts = λ k. opening (value k) } in
       record {
@@ -91,7 +91,7 @@ module _ {Task P : Type 0} (l : LayerOver Task P) (user : ℕ → ℕ → ℕ) (
         links = λ k lk. record {
           c = first_configuration l.below (value k);
           well = first_is_configuration l.below l.Holds l.Reaches l.lawful (value k) (first_fits_below v k lt lk);
-          reached = reached_first l.below (value k);
+          reached = replayed_at_first l.below (value k);
           memory = first_part v k lt lk;
           stopped = λ q lq. none_stopped_at l.below.processes q ∙ sym (none_stopped_at l.table.processes (user k q));
           running = λ q lq. none_pending_at l.below.processes q ∙ sym (ap (pending_in_part l.table k q) (none_pending_at l.table.processes (user k q)));

@@ -22,7 +22,7 @@ use Rattle.frames.specs.Placed.{placed_bit}
 use Rattle.frames.specs.correctness.ReportedActions.{cell_after, choice_on, MakesItsAction, ReportsActions}
 use Rattle.layers.specs.declared.nested.Ask.{Ask}
 use Rattle.layers.specs.declared.nested.Nested.{Nested}
-use Rattle.layers.specs.Nested.{Program, Ends, Asks, Reads, Sets, Table, layer_size, own_words_start, part_place, asked, pushed, after_part, advance, layered}
+use Rattle.layers.specs.Nested.{Program, Ends, Asks, Reads, Sets, Table, layer_size, own_words_start, part_place, asked, part_goes, after_part, advance, layered}
 use Rattle.layers.specs.Sound.{LayerHolds, LayerReaches}
 use Rattle.layers.specs.laws.Nested.{part_within, asks_fit}
 use Rattle.layers.specs.laws.Over.{LayerOver}
@@ -87,7 +87,7 @@ module _ {Task P : Type 0} (l : LayerOver Task P) (reports : ReportsActions l.be
       let made = reports.goes a.who a.op n.below choice (part at b.size m) (holds.parts a.part fit.0) there.below in
       let inside = LiesIn-of_size (layer_size l.table b.size) at b.size m holds.size (part_within l.table b.size a.part fit.0) in
       let few = l.lawful.acts_own a.who a.op n.below there.below in
-      let moved = pushed b a.part n.below choice m in
+      let moved = part_goes b a.part n.below choice m in
       let f : Cell → Cell = cell_after (b.acts n.below).kind made.value in
       record {
         value = made.value;

@@ -18,15 +18,15 @@ use Rattle.frames.specs.declared.types.Step.TheVariants as step
 use Rattle.frames.specs.declared.running.Running.{Running}
 use Rattle.layers.specs.declared.nested.Nested.{Nested}
 use Rattle.frames.specs.Behaviour.{Behaviour, Begun, Moved}
-use Rattle.frames.specs.Steps.{process_of}
+use Rattle.frames.specs.Steps.{process_of, invoking_step}
 use Rattle.frames.specs.Flat.{IsReached}
 use Rattle.frames.specs.Configuration.{running_at, is_stopped, stepped, events_of, return_of, still_running, chosen_of, in_order, fits_step, history, replayed}
-use Rattle.frames.specs.Parked.{IsConfiguration}
-use Rattle.frames.specs.Recorded.{Alone, AllFit}
+use Rattle.frames.specs.StoredConfiguration.{IsConfiguration}
+use Rattle.frames.specs.Recorded.{LoneConfiguration, AllFit}
 use Rattle.frames.specs.Voids.{IsVoid, why_void}
 use Rattle.frames.specs.laws.Steps.{void_unless_enabled, stopped_is_void, step_keeps}
 use Rattle.frames.proofs.Seen.{Seen, after_step, sees, Allowed, end_event}
-use Rattle.frames.proofs.Reached.{Reached, reached_more}
+use Rattle.frames.proofs.Replayed.{IsReplayed, replayed_more}
 use Rattle.layers.proofs.Admitted.{IsAdmitted, AlwaysAdmits, reached_admitted, gone_admitted}
 use Rattle.frames.proofs.Pointwise.{put, put_same, put_back_at, put_present_at}
 use Rattle.layers.specs.Nested.{part_place, own_words_start, after_part, advance, resume, layered}
@@ -35,11 +35,11 @@ use Rattle.layers.specs.laws.Nested.{asks_fit, holds_with_part}
 use Rattle.layers.specs.laws.Layered.{layer_lawful}
 use Rattle.layers.specs.laws.Over.{LayerOver}
 use Rattle.layers.proofs.Law.{TaskInProgress, View, Watch, Admission, IsKeptUnder, IsUser}
-use Rattle.layers.proofs.Links.{moves, StepsTo, step_begins, step_goes, step_stops, step_of, nested_next, pending_in_part, pending_in_part-same, pending_in_part-other, Linked, word_after_part, links_move, link_same, gone_seen}
+use Rattle.layers.proofs.Links.{put_next, StepsTo, step_begins, step_goes, step_stops, nested_next, pending_in_part, pending_in_part-same, pending_in_part-other, Linked, word_after_part, links_move, link_same, gone_seen}
 use Rattle.layers.proofs.TaskRuns.{task_in_progress, Ran, program_ran, after_part_ran, suits_by_table}
 
 -- a configuration of the layer, its view, and each part alone agree, and the invariant holds
-pub record Joint {Task P U : Type 0} (l : LayerOver Task P) (user : ℕ → ℕ → ℕ) (value : ℕ → ℕ) (w : Watch Task U) (c : Alone (Nested Task P)) (u : U) : Type 0 where
+pub record Joint {Task P U : Type 0} (l : LayerOver Task P) (user : ℕ → ℕ → ℕ) (value : ℕ → ℕ) (w : Watch Task U) (c : LoneConfiguration (Nested Task P)) (u : U) : Type 0 where
   pub well : IsConfiguration (layered l.table l.below) (LayerHolds l.table l.below l.Holds) (LayerReaches l.table l.MayBeAt l.Reaches) c
   pub j : View Task
   pub inv : w.Inv u j
@@ -49,10 +49,10 @@ pub record Joint {Task P U : Type 0} (l : LayerOver Task P) (user : ℕ → ℕ 
 
 -- part k alone, in the middle of p's stop: each process below n of the part as which p acts has
 -- stopped
-pub record Stopping {Task P : Type 0} (l : LayerOver Task P) (user : ℕ → ℕ → ℕ) (value : ℕ → ℕ) (p : ℕ) (c : Alone (Nested Task P)) (k : ℕ) (s : Seen) (n : ℕ) : Type 0 where
-  pub d : Alone P
+pub record Stopping {Task P : Type 0} (l : LayerOver Task P) (user : ℕ → ℕ → ℕ) (value : ℕ → ℕ) (p : ℕ) (c : LoneConfiguration (Nested Task P)) (k : ℕ) (s : Seen) (n : ℕ) : Type 0 where
+  pub d : LoneConfiguration P
   pub well : IsConfiguration l.below l.Holds l.Reaches d
-  pub reached : Reached l.below (value k) d s
+  pub reached : IsReplayed l.below (value k) d s
   pub memory : d.memory ≡ part (part_place l.below.size k) l.below.size c.memory
   pub running : (q : ℕ) → q < l.below.processes → running_at q d ≡ pending_in_part l.table k q (running_at (user k q) c)
   pub stops : (q : ℕ) → q < n → q < l.below.processes → user k q ≡ p → is_stopped q d ≡ true
@@ -67,30 +67,31 @@ stop_fits b who lw = grind (arith, nat_tests)
 
 module _ {Task P U : Type 0} (l : LayerOver Task P) (user : ℕ → ℕ → ℕ) (is_user : IsUser l.table l.MayBeAt user) (value : ℕ → ℕ) (w : Watch Task U) (rule : Admission) (first : ℕ → U) (Up : U → StepEvents → U → Type 0)
     (K : IsKeptUnder rule l.table l.MayBeAt w first Up) (all : AlwaysAdmits w.Good rule l.below) (vals : (k : ℕ) → k < l.table.parts → value k < l.below.values) where
+  -- the layer's points, the layer, and `Joint` of a configuration and what is known
   abbrev N : Type 0
   N = Nested Task P
 
   abbrev L : Behaviour N
   L = layered l.table l.below
 
-  abbrev J : Alone N → U → Type 0
+  abbrev J : LoneConfiguration N → U → Type 0
   J c u = Joint l user value w c u
 
   -- `Up` allows step s, and `Joint` holds after it
-  abbrev NextJoint : Alone N → U → Step → Type 0
+  abbrev NextJoint : LoneConfiguration N → U → Step → Type 0
   NextJoint c u s = (z : U) × (Up u (events_of L c s) z × J (stepped L c s) z)
 
   -- a void step keeps `Joint`
-  void_joint : (s : Step) (c : Alone N) (u : U) → IsVoid L c s → J c u → NextJoint c u s
+  void_joint : (s : Step) (c : LoneConfiguration N) (u : U) → IsVoid L c s → J c u → NextJoint c u s
   void_joint s c u v h = (u, (subst (λ e. Up u e u) (sym v.reported) (K.passes.void u (process_of s) (why_void c s)), subst (λ d. J d u) (sym v.leaves) h))
 
   -- `Joint` holds after p's program has run to its next bit action or its end
-  ran_joint : (p : ℕ) (o : Op) (s : Step) (event : Option Event) (begun : Begun N) (c : Alone N) (u : U)
+  ran_joint : (p : ℕ) (o : Op) (s : Step) (event : Option Event) (begun : Begun N) (c : LoneConfiguration N) (u : U)
       → p < length c.running → StepsTo L c s p o event begun.next begun.memory
       → IsConfiguration L (LayerHolds l.table l.below l.Holds) (LayerReaches l.table l.MayBeAt l.Reaches) (stepped L c s)
       → Ran l user value (λ q. is_stopped q c) w p o (λ e. Up u (in_order event e)) begun (λ q. running_at q c) → NextJoint c u s
   ran_joint p o s event begun c u lp to well r =
-      let d = moves p o begun.next begun.memory c in
+      let d = put_next p o begun.next begun.memory c in
       let same : (q : ℕ) → r.to q ≡ running_at q d =
       λ q. elim (cases_eq q p) as (λ _. r.to q ≡ running_at q d) [
         | inl e ↦ ap r.to e ∙ r.mine ∙ sym (ap (λ i. running_at i d) e ∙ get_or-set_at c.running p p (still_running o begun.next) None refl lp)
@@ -110,11 +111,11 @@ module _ {Task P U : Type 0} (l : LayerOver Task P) (user : ℕ → ℕ → ℕ)
         ),
       )
 
-  keeps_configuration : (c : Alone N) (s : Step) (u : U) → fits_step L s ≡ true → J c u → IsConfiguration L (LayerHolds l.table l.below l.Holds) (LayerReaches l.table l.MayBeAt l.Reaches) (stepped L c s)
+  keeps_configuration : (c : LoneConfiguration N) (s : Step) (u : U) → fits_step L s ≡ true → J c u → IsConfiguration L (LayerHolds l.table l.below l.Holds) (LayerReaches l.table l.MayBeAt l.Reaches) (stepped L c s)
   keeps_configuration c s u f h = step_keeps L (LayerHolds l.table l.below l.Holds) (LayerReaches l.table l.MayBeAt l.Reaches) (layer_lawful l) c s h.well f
 
   -- a process with nothing pending invokes an operation
-  invoke_joint : (p : ℕ) (o : Op) (c : Alone N) (u : U) → running_at p c ≡ None → is_stopped p c ≡ false → l.table.suits p o ≡ true → fits_step L (step_of p o) ≡ true → J c u → NextJoint c u (step_of p o)
+  invoke_joint : (p : ℕ) (o : Op) (c : LoneConfiguration N) (u : U) → running_at p c ≡ None → is_stopped p c ≡ false → l.table.suits p o ≡ true → fits_step L (invoking_step p o) ≡ true → J c u → NextJoint c u (invoking_step p o)
   invoke_joint p o c u e awake s f h =
       let begun : Begun N = advance l.table l.below (l.table.program p o) c.memory in
       let r = program_ran l user value (λ q. is_stopped q c) w rule is_user all vals p o (λ e. Up u (in_order (Some (Invoke p o)) e)) (l.table.program p o) c.memory (λ q. running_at q c) h.j
@@ -122,10 +123,10 @@ module _ {Task P U : Type 0} (l : LayerOver Task P) (user : ℕ → ℕ → ℕ)
       (record { holds = h.well.holds; words = h.words; tasks = λ q ne. h.tasks q; links = h.links })
       (K.begins u h.j p o h.inv (h.tasks p ∙ ap task_in_progress e) s) in
       let lp : p < l.table.processes = l.sound.nobody_else p o s in
-      ran_joint p o (step_of p o) (Some (Invoke p o)) begun c u (omega (arith, lp, h.well.each)) (step_begins L p o c c.memory e awake refl) (keeps_configuration c (step_of p o) u f h) r
+      ran_joint p o (invoking_step p o) (Some (Invoke p o)) begun c u (omega (arith, lp, h.well.each)) (step_begins L p o c c.memory e awake refl) (keeps_configuration c (invoking_step p o) u f h) r
 
   -- a process with an operation pending makes its next bit action
-  go_joint : (p choice : ℕ) (c : Alone N) (u : U) (r : Running N) → running_at p c ≡ Some r → is_stopped p c ≡ false → p < l.table.processes → choice < 2 → fits_step L (step.Go p choice) ≡ true → J c u
+  go_joint : (p choice : ℕ) (c : LoneConfiguration N) (u : U) (r : Running N) → running_at p c ≡ Some r → is_stopped p c ≡ false → p < l.table.processes → choice < 2 → fits_step L (step.Go p choice) ≡ true → J c u
       → NextJoint c u (step.Go p choice)
   go_joint p choice c u r e awake lp lc f h =
       let o : Op = r.op in
@@ -186,7 +187,7 @@ module _ {Task P U : Type 0} (l : LayerOver Task P) (user : ℕ → ℕ → ℕ)
       (omega (arith, lp, h.well.each)) whole (keeps_configuration c (step.Go p choice) u f h) ran
 
   -- when p stops, so does each process below n of part k as which p acts
-  stops_upto : (p : ℕ) (c : Alone N) (k : ℕ) (s : Seen) → is_stopped p c ≡ false → (n : ℕ) → n ≤ l.below.processes → Linked l user value (λ q. is_stopped q c) c.memory (λ q. running_at q c) k s
+  stops_upto : (p : ℕ) (c : LoneConfiguration N) (k : ℕ) (s : Seen) → is_stopped p c ≡ false → (n : ℕ) → n ≤ l.below.processes → Linked l user value (λ q. is_stopped q c) c.memory (λ q. running_at q c) k s
       → Stopping l user value p c k s n
   stops_upto p c k s awake zero ln h = record {
     d = h.c;
@@ -218,7 +219,7 @@ module _ {Task P U : Type 0} (l : LayerOver Task P) (user : ℕ → ℕ → ℕ)
             record {
               d = stepped l.below r.d (step.Stop n);
               well = step_keeps l.below l.Holds l.Reaches l.lawful r.d (step.Stop n) r.well f;
-              reached = subst (λ e. Reached l.below (value k) (stepped l.below r.d (step.Stop n)) (after_step e s)) is.events (reached_more l.below (value k) r.d s (step.Stop n) r.reached f);
+              reached = subst (λ e. IsReplayed l.below (value k) (stepped l.below r.d (step.Stop n)) (after_step e s)) is.events (replayed_more l.below (value k) r.d s (step.Stop n) r.reached f);
               memory = ap (λ x. x.memory) is.after ∙ r.memory;
               running = λ q lq. ap (λ x. running_at q x) is.after ∙ r.running q lq;
               stops = λ q lt lq e. ap (λ x. is_stopped q x) is.after ∙ elim (cases_eq q n) as (λ _. get_or (set r.d.stopped n true) q false ≡ true) [
@@ -232,7 +233,7 @@ module _ {Task P U : Type 0} (l : LayerOver Task P) (user : ℕ → ℕ → ℕ)
             }
       ]
 
-  stop_joint : (p : ℕ) (c : Alone N) (u : U) → is_stopped p c ≡ false → p < l.table.processes → fits_step L (step.Stop p) ≡ true → J c u → NextJoint c u (step.Stop p)
+  stop_joint : (p : ℕ) (c : LoneConfiguration N) (u : U) → is_stopped p c ≡ false → p < l.table.processes → fits_step L (step.Stop p) ≡ true → J c u → NextJoint c u (step.Stop p)
   stop_joint p c u awake lp f h =
       let is = step_stops L p c awake in (
         u,
@@ -262,18 +263,18 @@ module _ {Task P U : Type 0} (l : LayerOver Task P) (user : ℕ → ℕ → ℕ)
       )
 
   -- p invokes an operation, whether or not p has one pending
-  invoke_or_void_joint : (p : ℕ) (o : Op) (c : Alone N) (u : U) (x : Option (Running N)) → running_at p c ≡ x → is_stopped p c ≡ false → l.table.suits p o ≡ true → fits_step L (step_of p o) ≡ true
-      → ((r : Running N) → x ≡ Some r → IsVoid L c (step_of p o)) → J c u → NextJoint c u (step_of p o)
+  invoke_or_void_joint : (p : ℕ) (o : Op) (c : LoneConfiguration N) (u : U) (x : Option (Running N)) → running_at p c ≡ x → is_stopped p c ≡ false → l.table.suits p o ≡ true → fits_step L (invoking_step p o) ≡ true
+      → ((r : Running N) → x ≡ Some r → IsVoid L c (invoking_step p o)) → J c u → NextJoint c u (invoking_step p o)
   invoke_or_void_joint p o c u None e awake s f void h = invoke_joint p o c u e awake s f h
-  invoke_or_void_joint p o c u (Some r) e awake s f void h = void_joint (step_of p o) c u (void r refl) h
+  invoke_or_void_joint p o c u (Some r) e awake s f void h = void_joint (invoking_step p o) c u (void r refl) h
 
-  go_or_void_joint : (p choice : ℕ) (c : Alone N) (u : U) (x : Option (Running N)) → running_at p c ≡ x → is_stopped p c ≡ false → p < l.table.processes → choice < 2 → fits_step L (step.Go p choice) ≡ true → J c u
+  go_or_void_joint : (p choice : ℕ) (c : LoneConfiguration N) (u : U) (x : Option (Running N)) → running_at p c ≡ x → is_stopped p c ≡ false → p < l.table.processes → choice < 2 → fits_step L (step.Go p choice) ≡ true → J c u
       → NextJoint c u (step.Go p choice)
   go_or_void_joint p choice c u (Some r) e awake lp lc f h = go_joint p choice c u r e awake lp lc f h
   go_or_void_joint p choice c u None e awake lp lc f h =
       void_joint (step.Go p choice) c u (void_unless_enabled L c (step.Go p choice) (ap (λ x. not (is_stopped p c) && is_some x) e ∙ ap (λ b. not b && false) awake)) h
 
-  awake_joint : (s : Step) (c : Alone N) (u : U) → fits_step L s ≡ true → is_stopped (process_of s) c ≡ false → J c u → NextJoint c u s
+  awake_joint : (s : Step) (c : LoneConfiguration N) (u : U) → fits_step L s ≡ true → is_stopped (process_of s) c ≡ false → J c u → NextJoint c u s
   awake_joint (step.Write p v) c u f awake h =
       invoke_or_void_joint p (op.Write v) c u (running_at p c) refl awake f f
       (λ r e. void_unless_enabled L c (step.Write p v) (ap (λ x. not (is_stopped p c) && is_none x) e ∙ ap (λ b. not b && false) awake)) h
@@ -285,21 +286,21 @@ module _ {Task P U : Type 0} (l : LayerOver Task P) (user : ℕ → ℕ → ℕ)
       go_or_void_joint p choice c u (running_at p c) refl awake (ltb-true p l.table.processes parts.0) (ltb-true choice 2 parts.1) f h
   awake_joint (step.Stop p) c u f awake h = stop_joint p c u awake (ltb-true p l.table.processes f) f h
 
-  pub step_joint : (s : Step) (c : Alone N) (u : U) → fits_step L s ≡ true → J c u → NextJoint c u s
+  pub step_joint : (s : Step) (c : LoneConfiguration N) (u : U) → fits_step L s ≡ true → J c u → NextJoint c u s
   step_joint s c u f h = go (is_stopped (process_of s) c) refl
     where
       go : (k : Bool) → is_stopped (process_of s) c ≡ k → NextJoint c u s
       go true e = void_joint s c u (stopped_is_void L c s e) h
       go false e = awake_joint s c u f e h
 
-  pub steps_joint : (list : List Step) (c : Alone N) (u : U) → AllFit L list → J c u → Allowed Up u (history L c list)
+  pub steps_joint : (list : List Step) (c : LoneConfiguration N) (u : U) → AllFit L list → J c u → Allowed Up u (history L c list)
   steps_joint [] c u f h = tt
   steps_joint (s ∷ rest) c u f h =
       let z = step_joint s c u (All-head (λ x. fits_step L x ≡ true) s rest f) h in
       (z.0, (z.1.0, steps_joint rest (stepped L c s) z.0 (All-tail (λ x. fits_step L x ≡ true) s rest f) z.1.1))
 
   -- after all steps of a list, the view and the parts agree with the configuration
-  pub replayed_joint : (list : List Step) (c : Alone N) (u : U) → AllFit L list → J c u → (z : U) × J (replayed L c list) z
+  pub replayed_joint : (list : List Step) (c : LoneConfiguration N) (u : U) → AllFit L list → J c u → (z : U) × J (replayed L c list) z
   replayed_joint [] c u f h = (u, h)
   replayed_joint (s ∷ rest) c u f h =
       let z = step_joint s c u (All-head (λ x. fits_step L x ≡ true) s rest f) h in

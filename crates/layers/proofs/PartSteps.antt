@@ -12,13 +12,13 @@ use Rattle.frames.specs.declared.types.Next.TheVariants.{Pending, Done}
 use Rattle.frames.specs.Flat.{Lands, HasFramesFrom, outcome_of, left_frames}
 use Rattle.frames.specs.Placed.{placed_bit}
 use Rattle.layers.specs.declared.nested.Ask.{Ask}
-use Rattle.layers.specs.Nested.{part_place, asked, pushed, layered}
+use Rattle.layers.specs.Nested.{part_place, asked, part_goes, layered}
 use Rattle.layers.specs.Sound.{LayerReaches}
 use Rattle.layers.specs.InPlace.{own, LayerLies}
-use Rattle.layers.specs.Flat.{task_frames, cut_where_ended}
+use Rattle.layers.specs.Flat.{task_frames, cut_if_ended}
 use Rattle.layers.specs.laws.Nested.{asks_fit}
 use Rattle.layers.specs.laws.Flat.{part_leaves, index_inside, drop_one_more, take_one_more}
-use Rattle.layers.specs.laws.InPlace.{part_holds, part_inside, asked_next, asked_memory, pushed_next, pushed_chosen, pushed_memory}
+use Rattle.layers.specs.laws.InPlace.{part_holds, part_inside, asked_next, asked_memory, part_goes_next, part_goes_chosen, part_goes_memory}
 use Rattle.layers.specs.laws.Over.{LayerOver}
 
 -- an operation that has ended leaves only the frames that were below its own
@@ -54,7 +54,7 @@ module _ {Task P : Type 0} (l : LayerOver Task P) (at : Place) (m : Memory) (lie
     pub part_asked : (stack with_own left closed : List Frame) (first : ℕ) (given : Option Outcome) (after : Memory)
         → with_own ≡ stack ++ l.table.frame task ∷ [] → length stack ≡ first
         → Lands l.below.frames q (l.below.begins a.who a.op (part q l.below.size m)).next (l.below.begins a.who a.op (part q l.below.size m)).memory with_own m given left after
-        → closed ≡ cut_where_ended first given left
+        → closed ≡ cut_if_ended first given left
         → Lands (task_frames l.table l.below task) at (asked l.below (l.table.asks task) (own l.table l.below at m)).next (asked l.below (l.table.asks task) (own l.table l.below at m)).memory stack m given closed after
     part_asked stack with_own left closed first given after owns long lands closes =
         let b = l.below in
@@ -76,38 +76,38 @@ module _ {Task P : Type 0} (l : LayerOver Task P) (at : Place) (m : Memory) (lie
     pub part_has_frames : HasFramesFrom l.below.frames l.Reaches a.who (first + 1) stack a.op p
     part_has_frames = record { reached = rw e on.reached.below; there = drop_one_more first stack (l.below.frames p) (l.table.frame task) on.there }
 
-    -- the part's bit action reports the choice that `pushed` gives for the layer
+    -- the part's bit action reports the choice that `part_goes` gives for the layer
     pub part_chooses : (chosen : Option (ℕ × Bool)) → (HasFramesFrom l.below.frames l.Reaches a.who (first + 1) stack a.op p → chosen ≡ placed_bit q (l.below.goes p choice (part q l.below.size m)).chosen)
-        → chosen ≡ placed_bit at (pushed l.below (l.table.asks task).part p choice (own l.table l.below at m)).chosen
+        → chosen ≡ placed_bit at (part_goes l.below (l.table.asks task).part p choice (own l.table l.below at m)).chosen
     part_chooses chosen chooses =
         chooses part_has_frames ∙ ap (λ x. placed_bit x (l.below.goes p choice (part x l.below.size m)).chosen) is
-        ∙ pushed_chosen l at m lies a.part p choice (part_exists who o on.reached.may_be_at)
-        ∙ ap (λ x. placed_bit at (pushed l.below x.part p choice (own l.table l.below at m)).chosen) e
+        ∙ part_goes_chosen l at m lies a.part p choice (part_exists who o on.reached.may_be_at)
+        ∙ ap (λ x. placed_bit at (part_goes l.below x.part p choice (own l.table l.below at m)).chosen) e
 
     -- the part makes its bit action; the layer's own frame is dropped if the part's operation has
     -- ended
     pub part_moved : (given : Option Outcome) (left closed : List Frame) (after : Memory)
         → (HasFramesFrom l.below.frames l.Reaches a.who (first + 1) stack a.op p
         → Lands l.below.frames q (l.below.goes p choice (part q l.below.size m)).next (l.below.goes p choice (part q l.below.size m)).memory (take (first + 1) stack) m given left after)
-        → closed ≡ cut_where_ended first given left
-        → Lands (task_frames l.table l.below task) at (pushed l.below (l.table.asks task).part p choice (own l.table l.below at m)).next
-        (pushed l.below (l.table.asks task).part p choice (own l.table l.below at m)).memory (take first stack) m given closed after
+        → closed ≡ cut_if_ended first given left
+        → Lands (task_frames l.table l.below task) at (part_goes l.below (l.table.asks task).part p choice (own l.table l.below at m)).next
+        (part_goes l.below (l.table.asks task).part p choice (own l.table l.below at m)).memory (take first stack) m given closed after
     part_moved given left closed after lands_there closes =
         let b = l.below in
         let lands = lands_there part_has_frames in
         let here = own l.table b at m in
         let lt = part_exists who o on.reached.may_be_at in
-        let next = ap (λ x. (b.goes p choice (part x b.size m)).next) is ∙ pushed_next l at m lies a.part p choice lt ∙ ap (λ x. (pushed b x.part p choice here).next) e in
+        let next = ap (λ x. (b.goes p choice (part x b.size m)).next) is ∙ part_goes_next l at m lies a.part p choice lt ∙ ap (λ x. (part_goes b x.part p choice here).next) e in
         let answer = lands.answer ∙ ap outcome_of next in
         let there = index_inside first stack (b.frames p) (l.table.frame task) on.there in
         let front = take_one_more first stack (b.frames p) (l.table.frame task) on.there in
         record {
           answer = answer;
-          stack = closes ∙ part_leaves b.frames (l.table.frame task) (take first stack) (pushed b (l.table.asks task).part p choice here).next given left first
+          stack = closes ∙ part_leaves b.frames (l.table.frame task) (take first stack) (part_goes b (l.table.asks task).part p choice here).next given left first
               (omega (arith, there, length-take first stack)) answer (lands.stack ∙ (λ i. front i ++ left_frames b.frames (next i)));
           memory = lands.memory ∙ ap (λ x. with_part x (b.goes p choice (part x b.size m)).memory m) is
-              ∙ pushed_memory l at m lies a.part p choice a.who a.op lt part_has_frames.reached
-              ∙ ap (λ x. with_part at (pushed b x.part p choice here).memory m) e;
+              ∙ part_goes_memory l at m lies a.part p choice a.who a.op lt part_has_frames.reached
+              ∙ ap (λ x. with_part at (part_goes b x.part p choice here).memory m) e;
         }
 
     -- if the part's operation has ended, the layer's own frame is the last one on the stack

@@ -18,16 +18,16 @@ use Rattle.layers.specs.declared.nested.Continuation.TheVariants as continuation
 use Rattle.frames.specs.Placed.{placed_bit}
 use Rattle.frames.specs.Behaviour.{Behaviour, Begun, Moved, Answers, ReachedOrAnswered}
 use Rattle.frames.specs.Flat.{Lands, HasFramesFrom, outcome_of, left_frames}
-use Rattle.layers.specs.Nested.{Program, Table, layer_size, own_words_start, asked, pushed, advance, resume, layered}
+use Rattle.layers.specs.Nested.{Program, Table, layer_size, own_words_start, asked, part_goes, advance, resume, layered}
 use Rattle.layers.specs.Sound.{IsSound, IsNotSpent, IsSpent, LayerHolds, LayerReaches}
 use Rattle.layers.specs.Settled.{settled, ContinuationIsSound, run_on, follow_on}
 use Rattle.layers.specs.InPlace.{own, LayerLies}
-use Rattle.layers.specs.Flat.{task_frames, cut_where_ended}
+use Rattle.layers.specs.Flat.{task_frames, cut_if_ended}
 use Rattle.layers.specs.laws.Flat.{same_item_and_rest, index_inside}
 use Rattle.layers.specs.laws.InPlace.{own_with}
 use Rattle.layers.specs.laws.Settled.{settled_is_reached, settled_holds, settled_in_place, advance_settled}
 use Rattle.layers.specs.laws.Nested.{rest_sound}
-use Rattle.layers.specs.laws.Running.{task_pushed_holds, task_pushed_reached, follow_on_well, task_asked_holds, task_asked_reached, run_on_well, with_part_twice, lies_after}
+use Rattle.layers.specs.laws.Running.{task_goes_holds, task_goes_reached, follow_on_well, task_asked_holds, task_asked_reached, run_on_well, with_part_twice, lies_after}
 use Rattle.layers.specs.laws.Over.{LayerOver}
 
 -- no program goes on after this outcome, or after none: the part's operation is spent, or waits
@@ -230,7 +230,7 @@ module _ {Task P : Type 0} (l : LayerOver Task P) {at : Place} {m : Memory} (lie
     {frame : Frame} (found : drop first stack ≡ frame ∷ drop (first + 1) stack) {task : Task} (finds : task ≡ l.table.find who frame) where
   -- the effect of the part's action
   abbrev moved : P → Moved P
-  moved p = pushed l.below (l.table.asks task).part p choice (own l.table l.below at m)
+  moved p = part_goes l.below (l.table.asks task).part p choice (own l.table l.below at m)
 
   abbrev HasFramesOf : Op → Nested Task P → Type 0
   HasFramesOf o n = HasFramesFrom (layered l.table l.below).frames (LayerReaches l.table l.MayBeAt l.Reaches) who first stack o n
@@ -261,15 +261,15 @@ module _ {Task P : Type 0} (l : LayerOver Task P) {at : Place} {m : Memory} (lie
   pub chooses : (chosen : Option (ℕ × Bool)) → ((o : Op) (p : P) → HasFramesOf o (record { task = task; below = p }) → chosen ≡ placed_bit at (moved p).chosen)
       → (o : Op) (n : Nested Task P) → HasFramesOf o n → chosen ≡ placed_bit at (resume l.table l.below n choice (own l.table l.below at m)).chosen
   chooses chosen e o n on =
-      e o n.below (at_found_task o n on) ∙ ap (λ x. placed_bit at (pushed l.below (l.table.asks x).part n.below choice (own l.table l.below at m)).chosen) (in_task o n on)
+      e o n.below (at_found_task o n on) ∙ ap (λ x. placed_bit at (part_goes l.below (l.table.asks x).part n.below choice (own l.table l.below at m)).chosen) (in_task o n on)
 
   module _ {end : Option Outcome} (still : List Frame) {m1 : Memory}
       (pushes : (o : Op) (p : P) → HasFramesOf o (record { task = task; below = p })
-      → Lands (task_frames l.table l.below task) at (moved p).next (moved p).memory (take first stack) m end (cut_where_ended first end still) m1)
+      → Lands (task_frames l.table l.below task) at (moved p).next (moved p).memory (take first stack) m end (cut_if_ended first end still) m1)
       {o : Op} {n : Nested Task P} (on : HasFramesOf o n) where
     -- the stack, without the layer's own frame if the part's operation has ended
     abbrev left : List Frame
-    left = cut_where_ended first end still
+    left = cut_if_ended first end still
 
     lands : Lands (task_frames l.table l.below task) at (moved n.below).next (moved n.below).memory (take first stack) m end left m1
     lands = pushes o n.below (at_found_task o n on)
@@ -288,13 +288,13 @@ module _ {Task P : Type 0} (l : LayerOver Task P) {at : Place} {m : Memory} (lie
     waits none =
         for_task (take first stack) end still m1
         (subst (λ s. Lands (layered l.table l.below).frames at (follow_on l.table l.below task (moved n.below).next (moved n.below).memory).next
-        (follow_on l.table l.below task (moved n.below).next (moved n.below).memory).memory (take first stack) m end s m1) (ap (λ e. cut_where_ended first e still) none)
+        (follow_on l.table l.below task (moved n.below).next (moved n.below).memory).memory (take first stack) m end s m1) (ap (λ e. cut_if_ended first e still) none)
         (waiting_reaches_aim l at task (moved n.below).next (moved n.below).memory end (take first stack) left m m1 lands (subst WaitsOrIsSpent (sym none) tt)
         (follow_on l.table l.below task (moved n.below).next (moved n.below).memory) refl))
 
     module _ {outcome : Outcome} (is : end ≡ Some outcome) where
-      pushed_well : LayerHolds l.table l.below l.Holds (moved n.below).memory
-      pushed_well = let there = at_found_task o n on in task_pushed_holds l who o task n.below choice (own l.table l.below at m) lies.holds there.reached.may_be_at there.reached.below
+      part_goes_well : LayerHolds l.table l.below l.Holds (moved n.below).memory
+      part_goes_well = let there = at_found_task o n on in task_goes_holds l who o task n.below choice (own l.table l.below at m) lies.holds there.reached.may_be_at there.reached.below
 
       moved_done : (moved n.below).next ≡ Done outcome
       moved_done = done_of (moved n.below).next outcome (sym lands.answer ∙ is)
@@ -302,19 +302,19 @@ module _ {Task P : Type 0} (l : LayerOver Task P) {at : Place} {m : Memory} (lie
       -- if the part's operation has ended, the layer lies at its place, the outcome suits, and the
       -- stack is cut
       pub ended_lies : LayerLies l.table l.below l.Holds at m1
-      ended_lies = lies_after l at m lies (moved n.below).memory m1 lands.memory pushed_well
+      ended_lies = lies_after l at m lies (moved n.below).memory m1 lands.memory part_goes_well
 
       ended_suits : l.MayBeAt who o task × Answers l.below.values (l.table.asks task).op outcome
       ended_suits =
           let there = at_found_task o n on in (
             there.reached.may_be_at,
             subst (ReachedOrAnswered (l.Reaches (l.table.asks task).who (l.table.asks task).op) (Answers l.below.values (l.table.asks task).op)) moved_done
-                (task_pushed_reached l who o task n.below choice (own l.table l.below at m) lies.holds there.reached.may_be_at there.reached.below),
+                (task_goes_reached l who o task n.below choice (own l.table l.below at m) lies.holds there.reached.may_be_at there.reached.below),
           )
 
       ended_left : take first still ≡ take first stack
       ended_left =
-          sym (ap (λ e. cut_where_ended first e still) is)
+          sym (ap (λ e. cut_if_ended first e still) is)
           ∙ ended_leaves (task_frames l.table l.below task) (moved n.below).next end outcome (take first stack) left lands.answer is lands.stack
 
       -- the outcome also suits the task that is found again, since it is the same
@@ -328,10 +328,10 @@ module _ {Task P : Type 0} (l : LayerOver Task P) {at : Place} {m : Memory} (lie
       ended_goes_on back same front cut given after m2 it =
           let it_there = subst (λ t. Lands (layered l.table l.below).frames at (follow_on l.table l.below t (Done outcome) (own l.table l.below at m1)).next
           (follow_on l.table l.below t (Done outcome) (own l.table l.below at m1)).memory front m1 given after m2) same it in
-          let here : own l.table l.below at m1 ≡ (moved n.below).memory = ap (own l.table l.below at) lands.memory ∙ own_with l at m lies (moved n.below).memory pushed_well in
+          let here : own l.table l.below at m1 ≡ (moved n.below).memory = ap (own l.table l.below at) lands.memory ∙ own_with l at m lies (moved n.below).memory part_goes_well in
           let late = (follow_on_well l who o task (Done outcome) (own l.table l.below at m1) ended_lies.holds ended_suits.0 ended_suits.1).holds in
           for_task (take first stack) given after m2
-          (lands_from_earlier l at m lies (moved n.below).memory m1 lands.memory pushed_well (follow_on l.table l.below task (Done outcome) (own l.table l.below at m1))
+          (lands_from_earlier l at m lies (moved n.below).memory m1 lands.memory part_goes_well (follow_on l.table l.below task (Done outcome) (own l.table l.below at m1))
           (follow_on l.table l.below task (moved n.below).next (moved n.below).memory) (λ i. follow_on l.table l.below task (sym moved_done i) (here i)) late (take first stack) given after m2
           (subst (λ s. Lands (layered l.table l.below).frames at (follow_on l.table l.below task (Done outcome) (own l.table l.below at m1)).next
           (follow_on l.table l.below task (Done outcome) (own l.table l.below at m1)).memory s m1 given after m2) (cut ∙ ended_left) it_there))

@@ -19,6 +19,7 @@ use Rattle.frames.specs.Behaviour.{Begun, ReachedOrAnswered, Answers}
 use Rattle.frames.specs.Configuration.{running_at, return_of, still_running, in_order, fits_step}
 use Rattle.frames.specs.declared.types.Event.TheVariants.{Refused}
 use Rattle.frames.specs.declared.types.Layer.{Layer}
+use Rattle.frames.specs.Steps.{invoking_step}
 use Rattle.std.specs.Prelude.{if◌then◌else◌}
 use Rattle.frames.proofs.Seen.{Seen, sees, got, refuses, end_event, after_step}
 use Rattle.frames.proofs.Pointwise.{put, put_same, put_other, put_present_at, put_back_at}
@@ -28,7 +29,7 @@ use Rattle.layers.specs.laws.Nested.{asks_fit, holds_with_part, holds_with_word}
 use Rattle.layers.specs.laws.Over.{LayerOver}
 use Rattle.layers.proofs.Law.{TaskInProgress, View, Watch, Admission, RunsUnder, IsUser}
 use Rattle.layers.proofs.Admitted.{IsAdmitted, AlwaysAdmits, reached_admitted, spent_end}
-use Rattle.layers.proofs.Links.{step_of, step_of_fits, step_begins, StepsTo, nested_next, pending_in_part, Linked, part-with_word, word_after_part, links_move, link_same, begun_seen}
+use Rattle.layers.proofs.Links.{invoking_step_fits, step_begins, StepsTo, nested_next, pending_in_part, Linked, part-with_word, word_after_part, links_move, link_same, begun_seen}
 
 abbrev pub task_in_progress : {Task P : Type 0} → Option (Running (Nested Task P)) → Option (TaskInProgress Task)
 task_in_progress None = None
@@ -245,18 +246,18 @@ module _ {Task P U : Type 0} (l : LayerOver Task P) (user : ℕ → ℕ → ℕ)
       let own : Memory = part (part_place l.below.size a) l.below.size m in
       let begun : Begun P = l.below.begins who aop own in
       let new : Memory = with_part (part_place l.below.size a) begun.memory m in
-      let to : StepsTo l.below link.c (step_of who aop) who aop (Some (Invoke who aop)) begun.next begun.memory =
+      let to : StepsTo l.below link.c (invoking_step who aop) who aop (Some (Invoke who aop)) begun.next begun.memory =
       step_begins l.below who aop link.c own free (link.stopped who lw ∙ ap has_stopped u ∙ awake) link.memory in
-      let f : fits_step l.below (step_of who aop) ≡ true = step_of_fits l.below who aop fit.1 in
+      let f : fits_step l.below (invoking_step who aop) ≡ true = invoking_step_fits l.below who aop fit.1 in
       let g = l.lawful.begins_well who aop own (mid.holds.parts a la) fit.1 in
       let hs : HasSize l.below.size begun.memory = l.lawful.size_holds begun.memory g.holds in
       let fine : IsAdmitted w.Good rule (j.parts a) (in_order (Some (Invoke who aop)) (return_of who begun.next)) =
-      subst (IsAdmitted w.Good rule (j.parts a)) to.events (reached_admitted w.Good rule l.below (value a) link.c (j.parts a) (step_of who aop) all (vals a la) link.reached f) in
+      subst (IsAdmitted w.Good rule (j.parts a)) to.events (reached_admitted w.Good rule l.below (value a) link.c (j.parts a) (invoking_step who aop) all (vals a la) link.reached f) in
       let z : Seen = sees (Some (Invoke who aop)) (j.parts a) in
       let lh : LayerHolds l.table l.below l.Holds new = holds_with_part l a begun.memory m la g.holds mid.holds in
       let words : (i : ℕ) → i < l.table.words → j.words i ≡ word_at (own_words_start l.table l.below.size + i) new = λ i lt. mid.words i lt ∙ sym (word_after_part l begun.memory m a i mid.holds la hs) in
       let moved : (k : ℕ) → k < l.table.parts → Linked l user value has_stopped new (put p (still_running o (nested_next task begun.next)) at) k (put a (after_step (in_order (Some (Invoke who aop)) (return_of who begun.next)) (j.parts a)) j.parts k) =
-      links_move l user value has_stopped m at j.parts p o task (Some (Invoke who aop)) begun.next begun.memory (step_of who aop) mid.holds mid.links la lw u
+      links_move l user value has_stopped m at j.parts p o task (Some (Invoke who aop)) begun.next begun.memory (invoking_step who aop) mid.holds mid.links la lw u
       (λ k q ne. ap (pending_in_part l.table k q) idle) link f to hs in
       ask_ran rule p o task new at j begun.next Out (λ outcome n. advance l.table l.below (rest outcome) n) idle lh words mid.tasks moved fine (suits_by_table task begun.next g.may_be_at) r.0 r.1.1
       (λ outcome takes ans pass good mid2.

@@ -16,7 +16,7 @@ use Rattle.layers.specs.declared.layered.Layered.{Layered}
 use Rattle.layers.specs.declared.nested.Continuation.{Continuation}
 use Rattle.layers.specs.declared.nested.Nested.{Nested}
 use Rattle.layers.specs.Nested as nested
-use Rattle.layers.specs.Nested.{Table, layered, asked, pushed, gathered}
+use Rattle.layers.specs.Nested.{Table, layered, asked, part_goes, gathered}
 use Rattle.layers.specs.Sound.{LayerHolds, LayerReaches}
 use Rattle.layers.specs.Settled.{Settled, settled, ContinuationIsSound, run_on, follow_on}
 use Rattle.layers.specs.InPlace.{own, LayerLies}
@@ -36,7 +36,7 @@ module _ {L S Task P : Type 0} {R : rules.Ghosts L Task} {E : comparison.Ghosts 
   abbrev pub behaviour : Behaviour (Nested Task P)
   behaviour = layered table_of below_of
 
-  -- the part of memory m that is the layer's, if the layer lies at place `at`
+  -- the layer's memory (`own`), if the layer lies at place `at` in memory m
   abbrev pub own_memory : Place → Memory → Memory
   own_memory at m = own table_of below_of at m
 
@@ -91,7 +91,7 @@ module _ {L S Task P : Type 0} {R : rules.Ghosts L Task} {E : comparison.Ghosts 
   -- what the next bit action of the task's part, which is at point p, leads to: the part's new
   -- point or outcome, the choice made if a hit read ends, and the layer's memory
   abbrev pub moved_part : Task → P → Bool → Memory → Moved P
-  moved_part task p choice m = pushed below_of (table_of.asks task).part p choice m
+  moved_part task p choice m = part_goes below_of (table_of.asks task).part p choice m
 
   -- what the program of operation o by process `who` reaches from its beginning: its first task or
   -- its end, and the memory then

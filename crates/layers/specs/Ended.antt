@@ -13,9 +13,9 @@ use Rattle.frames.specs.declared.running.Running.{Running}
 use Rattle.frames.specs.Behaviour.{Behaviour}
 use Rattle.frames.specs.Configuration.{running_at, is_stopped}
 use Rattle.frames.specs.Steps.{process_of}
-use Rattle.frames.specs.Recorded.{Alone}
+use Rattle.frames.specs.Recorded.{LoneConfiguration}
 use Rattle.layers.specs.declared.nested.Nested.{Nested}
-use Rattle.layers.specs.Nested.{Program, Ends, Asks, Reads, Sets, Table, own_words_start, asked, pushed}
+use Rattle.layers.specs.Nested.{Program, Ends, Asks, Reads, Sets, Table, own_words_start, asked, part_goes}
 
 -- an ended operation on a part: the task that asked for it, and its outcome
 pub record Ended (Task : Type 0) : Type 0 where
@@ -50,7 +50,7 @@ module _ {Task P : Type 0} (t : Table Task) (b : Behaviour P) where
   abbrev pub ended_going : Bool → Option (Running (Nested Task P)) → Memory → List (Ended Task)
   ended_going choice None m = []
   ended_going choice (Some r) m =
-      let moved = pushed b (t.asks r.point.task).part r.point.below choice m in
+      let moved = part_goes b (t.asks r.point.task).part r.point.below choice m in
       ended_after (λ o n. ended_by (t.rest r.point.task o) n) r.point.task moved.next moved.memory
 
   -- which operations on parts end in a step of a process that hasn't stopped; `running` is the
@@ -68,5 +68,5 @@ module _ {Task P : Type 0} (t : Table Task) (b : Behaviour P) where
   ended_unless false s running m = ended_acting s running m
 
   -- which operations on parts end in step s, if the layer is in configuration c before the step
-  abbrev pub ended_in : Alone (Nested Task P) → Step → List (Ended Task)
+  abbrev pub ended_in : LoneConfiguration (Nested Task P) → Step → List (Ended Task)
   ended_in c s = ended_unless (is_stopped (process_of s) c) s (running_at (process_of s) c) c.memory

@@ -15,17 +15,17 @@ limits_hold t = nat_le LEAST_VALUES t.values && (nat_le LEAST_PROCESSES t.proces
 
 -- the register below has the values and processes that the parts need, and its depth, the most
 -- frames that its operations have, is below 8, so that the layer can add a frame of its own
-abbrev pub kind_fits : {Task P : Type 0} → Table Task → Behaviour P → Bool
-kind_fits t b = b.values == t.inner_values && (b.processes == t.inner_processes && nat_lt b.depth STACK_FRAMES)
+abbrev pub below_fits : {Task P : Type 0} → Table Task → Behaviour P → Bool
+below_fits t b = b.values == t.inner_values && (b.processes == t.inner_processes && nat_lt b.depth STACK_FRAMES)
 
 -- the layer over register b has at most 4,096 cells and 65,536 words, as each register must
 abbrev pub size_fits : {Task P : Type 0} → Table Task → Behaviour P → Bool
 size_fits t b = nat_le (t.parts * b.size.cell) MOST_CELLS && nat_le (t.parts * b.size.word + t.words) MOST_WORDS
 
--- why the layer can't be built on register b: `BadSize` if `limits_hold` or `kind_fits` is false,
+-- why the layer can't be built on register b: `BadSize` if `limits_hold` or `below_fits` is false,
 -- otherwise `TooManyBits` if `size_fits` is false; `None` if it can
 abbrev pub refusal_below : {Task P : Type 0} → Table Task → Behaviour P → Option LayerError
-refusal_below t b = if limits_hold t && kind_fits t b then (if size_fits t b then None else Some TooManyBits) else Some BadSize
+refusal_below t b = if limits_hold t && below_fits t b then (if size_fits t b then None else Some TooManyBits) else Some BadSize
 
 -- the number of each refusal, and its name, which is spelled like the variant
 abbrev pub error_number_and_name : LayerError → ℕ × List ℕ

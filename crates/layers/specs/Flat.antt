@@ -28,6 +28,6 @@ layered_point t find who (frame ∷ rest) = option_map (λ p. record { task = t.
 
 -- the stack that is kept after a part's step: if the part's operation has ended with an outcome,
 -- only the frames before index `first`; otherwise all frames
-abbrev pub cut_where_ended : ℕ → Option Outcome → List Frame → List Frame
-cut_where_ended first None stack = stack
-cut_where_ended first (Some outcome) stack = take first stack
+abbrev pub cut_if_ended : ℕ → Option Outcome → List Frame → List Frame
+cut_if_ended first None stack = stack
+cut_if_ended first (Some outcome) stack = take first stack

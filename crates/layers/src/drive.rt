@@ -12,7 +12,7 @@ ghost use Rattle.layers.specs.Nested as nested;
 ghost use Rattle.layers.specs.Nested.{layered};
 ghost use Rattle.layers.specs.Sound.{FitsBelow, IsNotSpent, IsSpent, LayerReaches};
 ghost use Rattle.layers.specs.Settled.{tasks_left};
-ghost use Rattle.layers.specs.Flat.{IsTaskByFrame, cut_where_ended};
+ghost use Rattle.layers.specs.Flat.{IsTaskByFrame, cut_if_ended};
 ghost use Rattle.layers.specs.Driver.{table_of, below_of, behaviour, own_memory, first_own_word, Holds, Lies, IsInTask, ContinuesWell, EndsTask, frames_in_task, all_first_parts, first_words, asked_part, moved_part, started, settled_after, run_from, run_after};
 
 use crate::construction::Construction;
@@ -182,7 +182,7 @@ impl<L: Construction, S: Register> Layered<L, S> {
         let first = stack.len();
         stack.push(self.layer.frame(task));
         let end = self.below.begin_on(store, place, ask.who, ask.op, stack);
-        close(stack, first, end);
+        cut_if_ended(stack, first, end);
         end
     }
 
@@ -190,7 +190,7 @@ impl<L: Construction, S: Register> Layered<L, S> {
     /// `first`, and the part's frames follow it. If the part's operation ends, the part's frames
     /// are dropped, but the layer's own frame stays.
     #[inline(always)]
-    pub(crate) fn push(
+    pub(crate) fn move_part(
         &self,
         store: &mut Store,
         at: Place,
@@ -207,7 +207,7 @@ impl<L: Construction, S: Register> Layered<L, S> {
             (L.MayBeAt self.now.layer) (S.Reaches self.now.below) who first stack.old op task p
             → (let moved = moved_part self.now task p choice (own_memory self.now at store.old) in
             Lands (frames_in_task self.now task) at moved.next moved.memory (take first stack.old)
-            store.old result.end (cut_where_ended first result.end stack.new) store.new) }
+            store.old result.end (cut_if_ended first result.end stack.new) store.new) }
         ensures own { IfSome result.end (λ _. stack.new ≡ take (first + 1) stack.old) }
         ensures chosen { (who : ℕ) (op : Op) (p : S.Pending) → IsInTask self.now
             (L.MayBeAt self.now.layer) (S.Reaches self.now.below) who first stack.old op task p
@@ -302,7 +302,7 @@ impl<L: Construction, S: Register> Layered<L, S> {
     /// operation ends, returns its outcome; if it waits for a bit action, pushes its frames onto
     /// the stack, and returns `None`.
     #[inline(always)]
-    pub(crate) fn follow(
+    pub(crate) fn run_on_after(
         &self,
         store: &mut Store,
         at: Place,
@@ -328,9 +328,9 @@ impl<L: Construction, S: Register> Layered<L, S> {
 
 /// Drops the frames from index `first` on, if `end` says that a part's operation has ended.
 #[inline]
-fn close(stack: &mut FlatStack, first: usize, end: Option<Outcome>)
+fn cut_if_ended(stack: &mut FlatStack, first: usize, end: Option<Outcome>)
     requires { first ≤ length stack.old }
-    ensures { stack.new ≡ cut_where_ended first end stack.old }
+    ensures { stack.new ≡ cut_if_ended first end stack.old }
 {
     if end.is_some() {
         stack.truncate(first);

@@ -135,7 +135,7 @@ impl<L: Construction, S: Register> Register for Layered<L, S> {
     ) -> Turned<Self::Pending> {
         let mut stack = FlatStack::new();
         self.push_frames(store.allocator(), &pending, &mut stack);
-        let who = self.process(&stack, &pending);
+        let who = self.reaching_process(&stack, &pending);
         let progress = self.go_on(store, at, who, &mut stack, 0, choice);
         Turned {
             next: self.reached_next(&stack, who, progress.end),
@@ -185,14 +185,14 @@ impl<L: Construction, S: Register> Register for Layered<L, S> {
     ) -> Progress {
         self.lemma_lies(store, at);
         let task = self.layer.find(who, stack.frame(first));
-        let progress = self.push(store, at, task, stack, first, choice);
+        let progress = self.move_part(store, at, task, stack, first, choice);
         let Some(outcome) = progress.end else {
             return progress;
         };
         // the task is found a second time, so that it needn't be kept while the part goes on
         let ended = self.layer.find(who, stack.frame(first));
         stack.truncate(first);
-        let end = self.follow(store, at, ended, outcome, stack);
+        let end = self.run_on_after(store, at, ended, outcome, stack);
         Progress {
             end,
             chosen: progress.chosen,

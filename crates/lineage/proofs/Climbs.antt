@@ -5,7 +5,7 @@ use Rattle.std.proofs.lemmas.Map.Keys.{IsDistinct-cons}
 use Rattle.std.proofs.lemmas.Map.Steps.{length-le_from_distinct_below}
 use Rattle.lineage.specs.Family.{has, last_of}
 use Rattle.lineage.specs.Climbs.{IsClimb, climb}
-use Rattle.lineage.proofs.KeyLists.{has_cases, has-head, has-tail, on_path, has_not_from, has_from_any, AllByRecursion-from_has, reverse_cons, last_from-push}
+use Rattle.lineage.proofs.KeyLists.{has_cases, has-head, has-tail, IsOnPath-from_has, has_not_from, has_from_any, AllByRecursion-from_has, reverse_cons, last_from-push}
 
 module _ (p : ℕ → Option (Option ℕ)) where
   climb_none : (n : ℕ) → climb p n None ≡ []
@@ -46,14 +46,14 @@ module _ (p : ℕ → Option (Option ℕ)) where
   -- each key of a climb has an item
   pub climb_there : (at : Option ℕ) (up : List ℕ) (k : ℕ) → IsClimb p at up → has k up ≡ true → (next : Option ℕ) × (p k ≡ Some next)
   climb_there at up k h m =
-      let s = on_path k up m in
+      let s = IsOnPath-from_has k up m in
       let c = climb_from at s.front k s.back (subst (IsClimb p at) s.is h) in
       (c.1.0, c.1.1.0)
 
   -- no key is twice in a climb
   pub not_again : (k : ℕ) (rest : List ℕ) → IsClimb p (Some k) (k ∷ rest) → has k rest ≡ false
   not_again k rest h = has_not_from k rest (λ m.
-      let s = on_path k rest m in
+      let s = IsOnPath-from_has k rest m in
       let here : IsClimb p (Some k) (k ∷ s.front ++ k ∷ s.back) = subst (λ r. IsClimb p (Some k) (k ∷ r)) s.is h in
       let again : IsClimb p (Some k) (k ∷ s.back) = climb_from (Some k) (k ∷ s.front) k s.back here in
       let same : k ∷ s.front ++ k ∷ s.back ≡ k ∷ s.back = climb_unique (Some k) (k ∷ s.front ++ k ∷ s.back) (k ∷ s.back) here again in
@@ -73,17 +73,17 @@ module _ (p : ℕ → Option (Option ℕ)) where
       (λ q m. let t = climb_there at up q h (has_from_any q up m) in bound q t.0 t.1)
 
   -- the last key of a climb in reverse is the key at which the climb begins
-  pub climb_top : (at : Option ℕ) (up : List ℕ) → IsClimb p at up → last_of (reverse up) ≡ at
-  climb_top at [] h = sym h
-  climb_top at (k ∷ up) h = ap last_of (reverse_cons k up) ∙ last_from-push None (reverse up) k ∙ sym h.0
+  pub last_of-climb_reverse : (at : Option ℕ) (up : List ℕ) → IsClimb p at up → last_of (reverse up) ≡ at
+  last_of-climb_reverse at [] h = sym h
+  last_of-climb_reverse at (k ∷ up) h = ap last_of (reverse_cons k up) ∙ last_from-push None (reverse up) k ∙ sym h.0
 
   -- a key of a climb is its first, or another key of the climb links to this key
-  pub climb_step : (at : Option ℕ) (up : List ℕ) (k : ℕ) (P : Type 0) → IsClimb p at up → has k up ≡ true → (at ≡ Some k → P)
+  pub climb_cases : (at : Option ℕ) (up : List ℕ) (k : ℕ) (P : Type 0) → IsClimb p at up → has k up ≡ true → (at ≡ Some k → P)
       → ((j : ℕ) → p j ≡ Some (Some k) → has j up ≡ true → P) → P
-  climb_step at [] k P h m first later = absurd (cc)
-  climb_step at (j ∷ up) k P h m first later =
+  climb_cases at [] k P h m first later = absurd (cc)
+  climb_cases at (j ∷ up) k P h m first later =
       has_cases k j up P m (λ same. first (h.0 ∙ ap Some (sym same)))
-      (λ rest. climb_step h.1.0 up k P h.1.1.1 rest (λ e. later j (h.1.1.0 ∙ ap Some e) (has-head j up)) (λ i e n. later i e (has-tail i j up n)))
+      (λ rest. climb_cases h.1.0 up k P h.1.1.1 rest (λ e. later j (h.1.1.0 ∙ ap Some e) (has-head j up)) (λ i e n. later i e (has-tail i j up n)))
 
 -- a change that keeps the links of a climb keeps the climb
 pub climb_kept : (p q : ℕ → Option (Option ℕ)) (at : Option ℕ) (up : List ℕ) → ((k : ℕ) (next : Option ℕ) → has k up ≡ true → p k ≡ Some next → q k ≡ Some next)

@@ -1,7 +1,7 @@
 -- The number of items of a list that pass a test, if None fails the test.
-use Rattle.std.proofs.Common.{◌≡◌, ◌≢◌, ℕ, ◌+◌, ◌<◌, ◌≤◌, zero, suc, Bool, true, false, cond, List, [], ◌∷◌, length, drop, get_or, Option, None, refl, sym, ◌∙◌, ap, arith}
+use Rattle.std.proofs.Common.{◌≡◌, ◌≢◌, ℕ, ◌+◌, ◌<◌, ◌≤◌, zero, suc, Bool, true, false, cond, List, [], ◌∷◌, drop, get_or, Option, None, refl, sym, ◌∙◌, ap, arith}
 use Rattle.std.specs.List.{count_by}
-use Rattle.std.proofs.lemmas.List.Sums.{sum_by-cons, count_by-le-length, sum_by-le-sum_by}
+use Rattle.std.proofs.lemmas.List.Sums.{sum_by-cons, sum_by-le-sum_by}
 
 -- 1 if true, 0 if false
 abbrev pub one_if : Bool → ℕ
@@ -85,9 +85,6 @@ module _ {A : Type 0} (p : Option A → Bool) where
           absurd (omega (arith, first, all, h))
       by false e = e
   none_pass (x ∷ xs) (suc k) none h = let all = count-cons x xs in none_pass xs k none (omega (arith, all, h))
-
-  pub count_few : (xs : List (Option A)) → count_by p xs ≤ length xs
-  count_few xs = count_by-le-length p xs
 
 -- at least as many items pass a weaker test
 pub count_weaker : {B : Type 0} (p q : B → Bool) (xs : List B) → ((x : B) → p x ≡ true → q x ≡ true) → count_by p xs ≤ count_by q xs

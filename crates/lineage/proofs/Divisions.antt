@@ -8,11 +8,12 @@ use Rattle.std.proofs.lemmas.List.Concat.{flat_map-append}
 use Rattle.lineage.specs.declared.node.Node.{Node}
 use Rattle.lineage.specs.Family.{has, above_key, divided_keys, IsAdded}
 use Rattle.lineage.specs.Climbs.{IsClimb, Ends}
-use Rattle.lineage.specs.Lineages.{tip_at, is_key, node, node_at, item_in, above_in, above_node, path_to, links_to_key, holders_of, node_over, node_under, family_on, IsOn, IsSoundFamily}
+use Rattle.lineage.specs.Lineages.{tip_at, is_key, node, node_at, item_in, link_in, link_at, path_to, links_to_key, holders_of, node_over, node_under, family_on, IsOn, IsSoundFamily}
 use Rattle.lineage.proofs.KeyLists.{has-head, has-tail, has_cases, reverse_cons}
-use Rattle.lineage.proofs.Walks.{path_to_is, link_within}
+use Rattle.lineage.proofs.ClimbedPaths.{path_to_is, link_within}
 use Rattle.lineage.proofs.Counts.{one_if, count_changed}
-use Rattle.lineage.proofs.KeptLinks.{map_on_tips, map-map, absent_holders}
+use Rattle.lineage.proofs.SoundNodes.{absent_holders}
+use Rattle.lineage.proofs.Maps.{map_on_tips, map-map}
 use Rattle.lineage.proofs.Pushes.{added}
 
 -- the nodes after a node is put right above another
@@ -42,6 +43,7 @@ module _ (key fresh : ℕ) where
       ∙ sym (flat_map-append (above_key key fresh) (reverse up) (k ∷ []))
       ∙ ap (divided_keys key fresh) (sym (reverse_cons k up))
 
+  -- with the new key a climb has the keys that it had
   has_cut : (x : ℕ) (up : List ℕ) → has x up ≡ true → has x (flat_map (cut_key key fresh) up) ≡ true
   has_cut x [] h = h
   has_cut x (k ∷ up) h = by (nat_eq key k) (has_cases x k up ((x ≡ k) ⊎ (has x (flat_map (cut_key key fresh) up) ≡ true)) h (λ e. inl e) (λ m. inr (has_cut x up m)))
@@ -55,6 +57,7 @@ module _ (key fresh : ℕ) where
       by false (inl e) = subst (λ z. has z (k ∷ rest) ≡ true) (sym e) (has-head k rest)
       by false (inr m) = has-tail x k rest m
 
+  -- and the new key, if it has the key
   has_fresh : (up : List ℕ) → has key up ≡ true → has fresh (flat_map (cut_key key fresh) up) ≡ true
   has_fresh [] h = absurd (cc)
   has_fresh (k ∷ up) h = by (nat_eq key k) refl (has_cases key k up ((key ≡ k) ⊎ (has fresh (flat_map (cut_key key fresh) up) ≡ true)) h (λ e. inl e) (λ m. inr (has_fresh up m)))
@@ -102,11 +105,11 @@ module _ {X : Type 0} (s t : List (Option (Node X))) (tips : List (Option ℕ)) 
   not_new : (k : ℕ) (m : Node X) → node_at s k ≡ Some m → k ≢ fresh
   not_new k m e same = let no : node_at s k ≡ None = ap (node_at s) same ∙ vacant in cc
 
-  kept : (k : ℕ) (next : Option ℕ) → k ≢ key → above_node s k ≡ Some next → above_node t k ≡ Some next
-  kept k next ne e = ap above_in (others k ne (λ same. let no : above_node s k ≡ None = ap (above_node s) same ∙ ap above_in vacant in cc)) ∙ e
+  kept : (k : ℕ) (next : Option ℕ) → k ≢ key → link_at s k ≡ Some next → link_at t k ≡ Some next
+  kept k next ne e = ap link_in (others k ne (λ same. let no : link_at s k ≡ None = ap (link_at s) same ∙ ap link_in vacant in cc)) ∙ e
 
-  climbs : (at : Option ℕ) (up : List ℕ) → IsClimb (above_node s) at up → IsClimb (above_node t) at (flat_map (cut_key key fresh) up)
-  climbs at up h = climb_divided (above_node s) (above_node t) key fresh n.above (ap above_in there) (ap above_in new_is) (ap above_in below_is) kept at up h
+  climbs : (at : Option ℕ) (up : List ℕ) → IsClimb (link_at s) at up → IsClimb (link_at t) at (flat_map (cut_key key fresh) up)
+  climbs at up h = climb_divided (link_at s) (link_at t) key fresh n.above (ap link_in there) (ap link_in new_is) (ap link_in below_is) kept at up h
 
   on_now : (k : ℕ) → IsOn s tips k → IsOn t tips k
   on_now k o = record { path = o.path; up = flat_map (cut_key key fresh) o.up; is = climbs (tip_at tips o.path) o.up o.is; on = has_cut key fresh k o.up o.on }
@@ -127,7 +130,7 @@ module _ {X : Type 0} (s t : List (Option (Node X))) (tips : List (Option ℕ)) 
   between = set t key (node_at s key)
 
   between_key : node_at between key ≡ node_at s key
-  between_key = get_or-set_same t key (node_at s key) None (link_within t key (Some fresh) (ap above_in below_is))
+  between_key = get_or-set_same t key (node_at s key) None (link_within t key (Some fresh) (ap link_in below_is))
 
   between_other : (k : ℕ) → k ≢ key → node_at between k ≡ node_at t k
   between_other k ne = get_or-set_other t key k (node_at s key) None ne
@@ -179,7 +182,7 @@ module _ {X : Type 0} (s t : List (Option (Node X))) (tips : List (Option ℕ)) 
     few = omega (arith, len, room);
   }
 
-  divided_path : (at : Option ℕ) → Ends (above_node s) at → path_to t at ≡ divided_keys key fresh (path_to s at)
+  divided_path : (at : Option ℕ) → Ends (link_at s) at → path_to t at ≡ divided_keys key fresh (path_to s at)
   divided_path at e =
       path_to_is t at (flat_map (cut_key key fresh) e.up) (climbs at e.up e.is) ∙ divided-reverse key fresh e.up
       ∙ ap (divided_keys key fresh) (sym (path_to_is s at e.up e.is))

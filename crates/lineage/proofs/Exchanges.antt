@@ -1,42 +1,23 @@
 -- Replacing a path by a new one.
-use Rattle.std.proofs.Common.{◌≡◌, ◌≢◌, ℕ, ◌+◌, ◌-◌, ◌<◌, ◌^◌, zero, suc, true, false, List, [], ◌∷◌, ◌++◌, length, map, get_or, set, take, Option, Some, None, refl, sym, ◌∙◌, ap, subst, arith, inl, inr, ◌⊎◌, true≢false}
+use Rattle.std.proofs.Common.{◌≡◌, ◌≢◌, ℕ, ◌+◌, ◌-◌, ◌<◌, ◌^◌, true, false, List, [], ◌∷◌, ◌++◌, length, map, get_or, set, Option, Some, None, refl, sym, ◌∙◌, ap, subst, arith, inl, inr, ◌⊎◌, true≢false}
 use Rattle.std.specs.Prelude.{is_some}
 use Rattle.std.specs.List.{count_by, swap_remove}
 use Rattle.std.proofs.lemmas.Bool.{cases_eq}
-use Rattle.std.proofs.lemmas.List.{get_or-set_same, get_or-set_other, get_or_push, set-append_left, take_at, length-set, length-map, length_push, ext_get_or, get_or_read, get_or_append_left}
+use Rattle.std.proofs.lemmas.List.{get_or-set_same, get_or-set_other, get_or_push, length-set, length-map, length_push, ext_get_or, get_or_read, get_or_append_left}
 use Rattle.std.proofs.lemmas.List.Sums.{sum_by-set, sum_by_push}
 use Rattle.lineage.specs.declared.node.Node.{Node}
 use Rattle.lineage.specs.Family.{has, item_at, path_in, IsExchanged}
 use Rattle.lineage.specs.Climbs.{IsClimb, Ends}
-use Rattle.lineage.specs.Lineages.{tip_at, is_key, node_at, item_in, above_in, above_node, path_to, with_holder, family_on, Stays, IsOn, IsSoundFamily, IsReleasing, IsPutLast}
+use Rattle.lineage.specs.Lineages.{tip_at, is_key, node_at, item_in, link_in, link_at, path_to, with_holder, family_on, Stays, IsOn, IsSoundFamily, IsReleasing, IsPutLast}
 use Rattle.lineage.proofs.Climbs.{climb_unique}
-use Rattle.lineage.proofs.Walks.{path_at, item_is}
+use Rattle.lineage.proofs.ClimbedPaths.{path_in_is, item_is}
 use Rattle.lineage.proofs.Counts.{one_if}
-use Rattle.lineage.proofs.KeptLinks.{node_from, path_stays}
+use Rattle.lineage.proofs.KeptLinks.{path_stays, links_stay}
+use Rattle.lineage.proofs.Links.{node_from}
 use Rattle.lineage.proofs.Forks.{forked_sound}
-use Rattle.lineage.proofs.Drops.{path_has, path_there, links_stay}
-use Rattle.lineage.proofs.Chains.{map_on}
-
--- removing a tip after one more is added puts the added tip in its place
-pub swapped : (tips : List (Option ℕ)) (tip d : Option ℕ) (path : ℕ) → path < length tips → swap_remove (tips ++ tip ∷ []) path d ≡ set tips path tip
-swapped tips tip d path within =
-    let many : length (tips ++ tip ∷ []) ≡ length tips + 1 = length_push tips tip in
-    let n : length (tips ++ tip ∷ []) - 1 ≡ length tips = omega (arith, many) in
-    ap (λ m. take m (set (tips ++ tip ∷ []) path (get_or (tips ++ tip ∷ []) m d))) n
-    ∙ ap (λ y. take (length tips) (set (tips ++ tip ∷ []) path y)) (get_or_push tips tip d (length tips) refl)
-    ∙ ap (take (length tips)) (set-append_left tips (tip ∷ []) path tip within)
-    ∙ take_at (set tips path tip) (tip ∷ []) (length tips) (length-set tips path tip)
-
-tips_from : (P : Option ℕ → Type 0) (tips : List (Option ℕ)) (tip : Option ℕ) → ((i : ℕ) → P (tip_at (tips ++ tip ∷ []) i)) → (i : ℕ) → P (tip_at tips i)
-tips_from P [] tip h i = h (suc zero)
-tips_from P (t ∷ tips) tip h zero = h zero
-tips_from P (t ∷ tips) tip h (suc i) = tips_from P tips tip (λ j. h (suc j)) i
-
-tip_cases : (tips : List (Option ℕ)) (tip : Option ℕ) (i : ℕ) → (tip_at (tips ++ tip ∷ []) i ≡ tip) ⊎ (tip_at (tips ++ tip ∷ []) i ≡ tip_at tips i)
-tip_cases [] tip zero = inl refl
-tip_cases [] tip (suc i) = inr refl
-tip_cases (t ∷ tips) tip zero = inr refl
-tip_cases (t ∷ tips) tip (suc i) = tip_cases tips tip i
+use Rattle.lineage.proofs.Families.{path_has, path_there}
+use Rattle.lineage.proofs.Maps.{map_on}
+use Rattle.lineage.proofs.Tips.{each_tip_before_push, pushed_tip_cases, swap_remove-push}
 
 module _ {X : Type 0} (t : List (Option (Node X))) (tips : List (Option ℕ)) (tip : Option ℕ) (path : ℕ) (sound : IsSoundFamily t (tips ++ tip ∷ [])) (within : path < length tips) where
   tip_here : tip_at (set tips path tip) path ≡ tip
@@ -45,31 +26,31 @@ module _ {X : Type 0} (t : List (Option (Node X))) (tips : List (Option ℕ)) (t
   tip_other : (i : ℕ) → i ≢ path → tip_at (set tips path tip) i ≡ tip_at tips i
   tip_other i ne = get_or-set_other tips path i tip None ne
 
-  ends_tip : Ends (above_node t) tip
-  ends_tip = subst (Ends (above_node t)) (get_or_push tips tip None (length tips) refl) (sound.ends (length tips))
+  ends_tip : Ends (link_at t) tip
+  ends_tip = subst (Ends (link_at t)) (get_or_push tips tip None (length tips) refl) (sound.ends (length tips))
 
-  ends_old : (i : ℕ) → Ends (above_node t) (tip_at tips i)
-  ends_old = tips_from (Ends (above_node t)) tips tip sound.ends
+  ends_old : (i : ℕ) → Ends (link_at t) (tip_at tips i)
+  ends_old = each_tip_before_push (Ends (link_at t)) tips tip sound.ends
 
-  ends_now : (i : ℕ) → (i ≡ path) ⊎ (i ≢ path) → Ends (above_node t) (tip_at (set tips path tip) i)
-  ends_now i (inl e) = subst (Ends (above_node t)) (sym (ap (tip_at (set tips path tip)) e ∙ tip_here)) ends_tip
-  ends_now i (inr ne) = subst (Ends (above_node t)) (sym (tip_other i ne)) (ends_old i)
+  ends_now : (i : ℕ) → (i ≡ path) ⊎ (i ≢ path) → Ends (link_at t) (tip_at (set tips path tip) i)
+  ends_now i (inl e) = subst (Ends (link_at t)) (sym (ap (tip_at (set tips path tip)) e ∙ tip_here)) ends_tip
+  ends_now i (inr ne) = subst (Ends (link_at t)) (sym (tip_other i ne)) (ends_old i)
 
   live_now : (k : ℕ) (o : IsOn t (tips ++ tip ∷ []) k) → (tip_at (tips ++ tip ∷ []) o.path ≡ tip) ⊎ (tip_at (tips ++ tip ∷ []) o.path ≡ tip_at tips o.path)
       → (o.path ≡ path) ⊎ (o.path ≢ path) → IsOn t (set tips path tip) k ⊎ (has k (ends_old path).up ≡ true)
-  live_now k o (inl new) at = inl (record { path = path; up = o.up; is = subst (λ z. IsClimb (above_node t) z o.up) (new ∙ sym tip_here) o.is; on = o.on })
+  live_now k o (inl new) at = inl (record { path = path; up = o.up; is = subst (λ z. IsClimb (link_at t) z o.up) (new ∙ sym tip_here) o.is; on = o.on })
   live_now k o (inr old) (inl e) =
-      let is : IsClimb (above_node t) (tip_at tips path) o.up = subst (λ z. IsClimb (above_node t) z o.up) (old ∙ ap (tip_at tips) e) o.is in
-      let same = climb_unique (above_node t) (tip_at tips path) o.up (ends_old path).up is (ends_old path).is in
+      let is : IsClimb (link_at t) (tip_at tips path) o.up = subst (λ z. IsClimb (link_at t) z o.up) (old ∙ ap (tip_at tips) e) o.is in
+      let same = climb_unique (link_at t) (tip_at tips path) o.up (ends_old path).up is (ends_old path).is in
       inr (subst (λ u. has k u ≡ true) same o.on)
-  live_now k o (inr old) (inr ne) = inl (record { path = o.path; up = o.up; is = subst (λ z. IsClimb (above_node t) z o.up) (old ∙ sym (tip_other o.path ne)) o.is; on = o.on })
+  live_now k o (inr old) (inr ne) = inl (record { path = o.path; up = o.up; is = subst (λ z. IsClimb (link_at t) z o.up) (old ∙ sym (tip_other o.path ne)) o.is; on = o.on })
 
   -- after the new tip has replaced the old one, the old one is being released
   pub exchanged_first : IsReleasing t t (set tips path tip) (tip_at tips path)
   exchanged_first = record {
     ends = λ i. ends_now i (cases_eq i path);
     going = ends_old path;
-    live = λ k n e. let o = sound.live k n e in live_now k o (tip_cases tips tip o.path) (cases_eq o.path path);
+    live = λ k n e. let o = sound.live k n e in live_now k o (pushed_tip_cases tips tip o.path) (cases_eq o.path path);
     counted = λ k n e.
         let is = sound.counted k n e in
         let a = sum_by-set (λ x. one_if (is_key k x)) tips path tip None within in
@@ -93,10 +74,10 @@ module _ {X : Type 0} (s t u : List (Option (Node X))) (tips now : List (Option 
   new_here : tip_at new path ≡ put.tip
   new_here = get_or-set_same tips path put.tip None within
 
-  keeps : (k : ℕ) (next : Option ℕ) → above_node s k ≡ Some next → above_node t k ≡ Some next
+  keeps : (k : ℕ) (next : Option ℕ) → link_at s k ≡ Some next → link_at t k ≡ Some next
   keeps k next e =
       let n = node_from (node_at s k) next e in
-      ap above_in (put.kept k n.0 n.1.0) ∙ ap Some n.1.1
+      ap link_in (put.kept k n.0 n.1.0) ∙ ap Some n.1.1
 
   path_here : path_to u (tip_at new path) ≡ keys
   path_here = sym (path_stays u t (links_stay t u stays) (tip_at new path) (sound.ends path)) ∙ ap (path_to t) new_here
@@ -111,10 +92,10 @@ module _ {X : Type 0} (s t u : List (Option (Node X))) (tips now : List (Option 
 
   each : (i : ℕ) → (i ≡ path) ⊎ (i ≢ path) → path_in (family_on u new) i ≡ get_or (set (map (path_to s) tips) path keys) i []
   each i (inl e) =
-      path_at u new i ∙ ap (λ j. path_to u (tip_at new j)) e ∙ path_here
+      path_in_is u new i ∙ ap (λ j. path_to u (tip_at new j)) e ∙ path_here
       ∙ sym (ap (λ j. get_or (set (map (path_to s) tips) path keys) j []) e ∙ get_or-set_same (map (path_to s) tips) path keys [] (subst (λ n. path < n) (sym many) within))
   each i (inr ne) =
-      path_at u new i ∙ path_other i ne ∙ sym (path_at s tips i) ∙ sym (get_or-set_other (map (path_to s) tips) path i keys [] ne)
+      path_in_is u new i ∙ path_other i ne ∙ sym (path_in_is s tips i) ∙ sym (get_or-set_other (map (path_to s) tips) path i keys [] ne)
 
   exchanged_paths : map (path_to u) new ≡ set (map (path_to s) tips) path keys
   exchanged_paths =
@@ -130,7 +111,7 @@ module _ {X : Type 0} (s t u : List (Option (Node X))) (tips now : List (Option 
       ap item_in n.1 ∙ ap Some o.1.1.0 ∙ sym (ap item_in o.1.0)
 
   on_new : (k : ℕ) → has k keys ≡ true → has k (path_in (family_on u new) path) ≡ true
-  on_new k m = ap (has k) (path_at u new path ∙ path_here) ∙ m
+  on_new k m = ap (has k) (path_in_is u new path ∙ path_here) ∙ m
 
   pub exchanged : IsExchanged (family_on s tips) (family_on u new) path items
   exchanged = record {
@@ -175,7 +156,7 @@ module _ {X : Type 0} (s reserved t : List (Option (Node X))) (tips room now aft
 
     module _ (value : tip ≡ get_or now path tip) (after_is : after ≡ swap_remove now path tip) where
       set_tip : after ≡ set tips path put_last.tip
-      set_tip = after_is ∙ ap (λ xs. swap_remove xs path tip) put_last.tips_are ∙ swapped tips put_last.tip tip path within_tips
+      set_tip = after_is ∙ ap (λ xs. swap_remove xs path tip) put_last.tips_are ∙ swap_remove-push tips put_last.tip tip path within_tips
 
       tip_was : tip_at tips path ≡ tip
       tip_was =

@@ -3,19 +3,23 @@ use Rattle.std.proofs.Common.{◌≡◌, ℕ, zero, suc, ◌+◌, ◌<◌, ◌^�
 use Rattle.std.specs.Prelude.{is_some, IsSome, IfSome}
 use Rattle.std.specs.List.{count_by}
 use Rattle.std.proofs.lemmas.List.{get_or_append_left, map_push, reverse-reverse, length_push}
-use Rattle.std.proofs.lemmas.List.Sums.{sum_by_push}
+use Rattle.std.proofs.lemmas.List.Sums.{sum_by_push, count_by-le-length}
 use Rattle.lineage.specs.declared.node.Node.{Node}
 use Rattle.lineage.specs.Family.{last_of, item_at, path_in, IsForked, Family}
 use Rattle.lineage.specs.Climbs.{IsClimb, Ends}
-use Rattle.lineage.specs.Lineages.{tip_at, is_key, is_above, node, node_at, item_in, above_in, above_node, path_to, links_to_key, holders_of, with_holder, family_on, IsOn, IsSoundFamily}
+use Rattle.lineage.specs.Lineages.{tip_at, is_key, is_above, node, node_at, item_in, link_in, link_at, path_to, links_to_key, holders_of, with_holder, family_on, IsOn, IsSoundFamily}
 use Rattle.lineage.proofs.KeyLists.{reverse_cons}
-use Rattle.lineage.proofs.Climbs.{climb_top}
-use Rattle.lineage.proofs.Walks.{path_to_is, item_is, climb_at}
-use Rattle.lineage.proofs.Counts.{one_if, count_same, count_few, count_weaker}
-use Rattle.lineage.proofs.KeptLinks.{climb_stays, path_stays, map_on_tips, tip_push, on_within, node_climb}
+use Rattle.lineage.proofs.Climbs.{last_of-climb_reverse}
+use Rattle.lineage.proofs.ClimbedPaths.{path_to_is, item_is, climb_at}
+use Rattle.lineage.proofs.Counts.{one_if, count_same, count_weaker}
+use Rattle.lineage.proofs.KeptLinks.{climb_stays, path_stays}
+use Rattle.lineage.proofs.SoundNodes.{on_within, node_climb}
+use Rattle.lineage.proofs.Tips.{each_tip_pushed}
+use Rattle.lineage.proofs.Maps.{map_on_tips}
 
 module _ {X : Type 0} where
-  held_above : (b : Bool) (o : Option (Node X)) → above_in (with_holder b o) ≡ above_in o
+  -- one holder more changes neither a node's link nor its item
+  held_above : (b : Bool) (o : Option (Node X)) → link_in (with_holder b o) ≡ link_in o
   held_above true None = refl
   held_above true (Some n) = refl
   held_above false None = refl
@@ -41,6 +45,7 @@ module _ {X : Type 0} where
       let none : m.holders ≡ m.holders + 0 = omega arith in
       (m, (refl, sym (ap (λ (z : Node X). z.holders) same) ∙ none))
 
+  -- two lists of equally many nodes have the same items if they have the same at each key
   same_items : (s t : List (Option (Node X))) → length t ≡ length s → ((k : ℕ) → item_in (node_at t k) ≡ item_in (node_at s k)) → map item_in t ≡ map item_in s
   same_items [] [] e h = refl
   same_items [] (n ∷ t) e h = absurd (omega arith)
@@ -51,9 +56,11 @@ module _ {X : Type 0} where
   some_node None h = absurd (cc)
   some_node (Some n) h = (n, refl)
 
+  -- a key with an item has a node
   pub node_there : (s : List (Option (Node X))) (tips : List (Option ℕ)) (f : Family X) (key : ℕ) → family_on s tips ≡ f → IsSome (item_at f key) → (n : Node X) × (node_at s key ≡ Some n)
   node_there s tips f key seen h = some_node (node_at s key) (subst IsSome (ap (λ z. item_at z key) (sym seen) ∙ item_is s tips key) h)
 
+  -- the same of a key, if one is given
   pub some_there : (s : List (Option (Node X))) (tips : List (Option ℕ)) (key : Option ℕ) → IfSome key (λ k. IsSome (item_at (family_on s tips) k))
       → IfSome key (λ k. IsSome (node_at s k))
   some_there s tips None h = h
@@ -62,34 +69,34 @@ module _ {X : Type 0} where
   module _ (s t : List (Option (Node X))) (tips new : List (Option ℕ)) (key : Option ℕ) (sound : IsSoundFamily s tips)
       (there : IfSome key (λ k. IsSome (item_at (family_on s tips) k))) (now : (k : ℕ) → node_at t k ≡ with_holder (is_key k key) (node_at s k))
       (tips_are : new ≡ tips ++ key ∷ []) where
-    same_above : (k : ℕ) → above_node t k ≡ above_node s k
-    same_above k = ap above_in (now k) ∙ held_above (is_key k key) (node_at s k)
+    same_above : (k : ℕ) → link_at t k ≡ link_at s k
+    same_above k = ap link_in (now k) ∙ held_above (is_key k key) (node_at s k)
 
-    keeps : (k : ℕ) (next : Option ℕ) → above_node s k ≡ Some next → above_node t k ≡ Some next
+    keeps : (k : ℕ) (next : Option ℕ) → link_at s k ≡ Some next → link_at t k ≡ Some next
     keeps k next e = same_above k ∙ e
 
-    ends_key : Ends (above_node s) key
+    ends_key : Ends (link_at s) key
     ends_key = by key there
       where
-        by : (o : Option ℕ) → IfSome o (λ k. IsSome (item_at (family_on s tips) k)) → Ends (above_node s) o
+        by : (o : Option ℕ) → IfSome o (λ k. IsSome (item_at (family_on s tips) k)) → Ends (link_at s) o
         by None h = record { up = []; is = refl }
         by (Some k) h =
             let n = node_there s tips (family_on s tips) k refl h in
             let c = node_climb s tips sound k n.0 n.1 in
             record { up = k ∷ c.0; is = c.1 }
 
-    ends_stay : (at : Option ℕ) → Ends (above_node s) at → Ends (above_node t) at
+    ends_stay : (at : Option ℕ) → Ends (link_at s) at → Ends (link_at t) at
     ends_stay at e = record { up = e.up; is = climb_stays s t keeps at e.up e.is }
 
-    ends_now : (i : ℕ) → Ends (above_node t) (tip_at new i)
+    ends_now : (i : ℕ) → Ends (link_at t) (tip_at new i)
     ends_now i =
-        subst (λ l. Ends (above_node t) (tip_at l i)) (sym tips_are)
-        (tip_push (Ends (above_node t)) tips key (λ j. ends_stay (tip_at tips j) (sound.ends j)) (ends_stay key ends_key) i)
+        subst (λ l. Ends (link_at t) (tip_at l i)) (sym tips_are)
+        (each_tip_pushed (Ends (link_at t)) tips key (λ j. ends_stay (tip_at tips j) (sound.ends j)) (ends_stay key ends_key) i)
 
     on_now : (k : ℕ) → IsOn s tips k → IsOn t new k
     on_now k o =
         let tip : tip_at new o.path ≡ tip_at tips o.path = ap (λ l. tip_at l o.path) tips_are ∙ get_or_append_left tips (key ∷ []) None o.path (on_within s tips k o) in
-        record { path = o.path; up = o.up; is = subst (λ z. IsClimb (above_node t) z o.up) (sym tip) (climb_stays s t keeps (tip_at tips o.path) o.up o.is); on = o.on }
+        record { path = o.path; up = o.up; is = subst (λ z. IsClimb (link_at t) z o.up) (sym tip) (climb_stays s t keeps (tip_at tips o.path) o.up o.is); on = o.on }
 
     holders_now : (m : ℕ) → holders_of t new m ≡ holders_of s tips m + one_if (is_key m key)
     holders_now m =
@@ -125,7 +132,7 @@ module _ {X : Type 0} where
       paths = ap (map (path_to t)) tips_are ∙ map_push (path_to t) tips key
           ∙ ap (λ l. l ++ path_to t key ∷ []) (map_on_tips (path_to t) (path_to s) tips (λ i. path_stays s t keeps (tip_at tips i) (sound.ends i)))
           ∙ ap (λ p. map (path_to s) tips ++ p ∷ []) (path_stays s t keeps key ends_key);
-      last = ap last_of (path_to_is s key ends_key.up ends_key.is) ∙ climb_top (above_node s) key ends_key.up ends_key.is;
+      last = ap last_of (path_to_is s key ends_key.up ends_key.is) ∙ last_of-climb_reverse (link_at s) key ends_key.up ends_key.is;
       shared = shared_path;
       items = same_items s t long same_item;
     }
@@ -135,7 +142,7 @@ module _ {X : Type 0} where
       → length tips + count_by is_some s + 1 < 2 ^ 64 → n.holders + 1 < 2 ^ 64
   few_holders s tips k n sound e room =
       let is = sound.counted k n e in
-      let a = count_few (is_key k) tips in
+      let a = count_by-le-length (is_key k) tips in
       let b = count_weaker (links_to_key k) is_some s (λ o. linked_is_some o) in
       omega (arith, is, a, b, room)
     where

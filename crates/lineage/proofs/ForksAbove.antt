@@ -8,7 +8,7 @@ use Rattle.lineage.specs.Family.{has, path_in, item_at, above_key, divided_keys,
 use Rattle.lineage.specs.Lineages.{is_key, node_at, item_in, node_over, node_under, with_holder, family_on, IsSoundFamily}
 use Rattle.lineage.proofs.KeyLists.{has-reverse}
 use Rattle.lineage.proofs.Climbs.{not_again}
-use Rattle.lineage.proofs.Walks.{climb_at, item_is}
+use Rattle.lineage.proofs.ClimbedPaths.{climb_at, item_is}
 use Rattle.lineage.proofs.Divisions.{divided_sound, divided_paths, divided_added}
 use Rattle.lineage.proofs.Forks.{forked, forked_sound}
 
@@ -39,6 +39,7 @@ module _ {X : Type 0} (s t u : List (Option (Node X))) (tips new : List (Option 
     (there : node_at s key ≡ Some n) (vacant : node_at s fresh ≡ None) (at_fresh : node_at t fresh ≡ node_over item (node_at s key))
     (below : node_at t key ≡ node_under fresh (node_at s key)) (others : (k : ℕ) → k ≢ key → k ≢ fresh → node_at t k ≡ node_at s k)
     (more : count_by is_some t ≡ count_by is_some s + 1) (room : length tips + 1 + (count_by is_some s + 1) < 2 ^ 64) where
+  -- t are the nodes between the two changes: the new item is there, and the new path isn't
   pub mid_sound : IsSoundFamily t tips
   mid_sound = divided_sound s t tips key fresh item n sound there vacant at_fresh below others more (omega arith)
 

@@ -1,5 +1,5 @@
 -- Membership in lists of keys.
-use Rattle.std.proofs.Common.{◌≡◌, ℕ, Bool, true, false, ◌||◌, nat_eq, eqb, List, [], ◌∷◌, ◌++◌, Option, Some, reverse, refl, sym, ap, ◌∙◌, true≢false, eq-eqb}
+use Rattle.std.proofs.Common.{◌≡◌, ◌⊎◌, ℕ, Bool, true, false, ◌||◌, nat_eq, eqb, List, [], ◌∷◌, ◌++◌, Option, Some, reverse, refl, sym, ap, subst, ◌∙◌, inl, inr, true≢false, eq-eqb}
 use Rattle.std.proofs.lemmas.Bool.{eqb-true, false_from_ne_true, or_left, or_right}
 use Rattle.std.proofs.lemmas.List.{reverse-append}
 use Rattle.std.specs.List.{AllByRecursion, list_any}
@@ -38,11 +38,12 @@ has-left x ys zs h = has-append x ys zs ∙ or_left (has x ys) (has x zs) h
 pub has-right : (x : ℕ) (ys zs : List ℕ) → has x zs ≡ true → has x (ys ++ zs) ≡ true
 has-right x ys zs h = has-append x ys zs ∙ or_right (has x ys) (has x zs) h
 
-or_false : (b c : Bool) → (b || c) ≡ (c || (b || false))
-or_false true true = refl
-or_false true false = refl
-or_false false true = refl
-or_false false false = refl
+-- `has-reverse` for one item: the test of the first item comes last
+or_swapped : (b c : Bool) → (b || c) ≡ (c || (b || false))
+or_swapped true true = refl
+or_swapped true false = refl
+or_swapped false true = refl
+or_swapped false false = refl
 
 -- reversing a list puts its first item last
 pub reverse_cons : (y : ℕ) (ys : List ℕ) → reverse (y ∷ ys) ≡ reverse ys ++ y ∷ []
@@ -52,18 +53,19 @@ pub has-reverse : (x : ℕ) (ys : List ℕ) → has x (reverse ys) ≡ has x ys
 has-reverse x [] = refl
 has-reverse x (y ∷ ys) =
     ap (has x) (reverse_cons y ys) ∙ has-append x (reverse ys) (y ∷ []) ∙ ap (λ b. b || (nat_eq x y || false)) (has-reverse x ys)
-    ∙ sym (or_false (nat_eq x y) (has x ys))
+    ∙ sym (or_swapped (nat_eq x y) (has x ys))
 
+-- a number that can't be in a list isn't
 pub has_not_from : (x : ℕ) (ys : List ℕ) → (has x ys ≡ true → ⊥) → has x ys ≡ false
 has_not_from x ys h = false_from_ne_true (has x ys) h
 
 -- a number in a list has a position there
-pub on_path : (x : ℕ) (ys : List ℕ) → has x ys ≡ true → IsOnPath ys x
-on_path x [] h = absurd (true≢false (sym h))
-on_path x (y ∷ ys) h =
+pub IsOnPath-from_has : (x : ℕ) (ys : List ℕ) → has x ys ≡ true → IsOnPath ys x
+IsOnPath-from_has x [] h = absurd (true≢false (sym h))
+IsOnPath-from_has x (y ∷ ys) h =
     has_cases x y ys (IsOnPath (y ∷ ys) x) h
     (λ same. record { front = []; back = ys; is = ap (λ z. z ∷ ys) (sym same) })
-    (λ rest. let s = on_path x ys rest in record { front = y ∷ s.front; back = s.back; is = ap (λ l. y ∷ l) s.is })
+    (λ rest. let s = IsOnPath-from_has x ys rest in record { front = y ∷ s.front; back = s.back; is = ap (λ l. y ∷ l) s.is })
 
 pub AllByRecursion-from_has : (x : ℕ) (ys : List ℕ) → has x ys ≡ false → AllByRecursion (λ y. eqb x y ≡ false) ys
 AllByRecursion-from_has x [] h = tt
@@ -85,3 +87,14 @@ has_from_any x (y ∷ ys) h = by (eqb x y) refl (has_from_any x ys)
 pub last_from-push : (first : Option ℕ) (ks : List ℕ) (k : ℕ) → last_from first (ks ++ k ∷ []) ≡ Some k
 last_from-push first [] k = refl
 last_from-push first (j ∷ ks) k = last_from-push (Some j) ks k
+
+-- a number in a list to which one is added is in the list before, or is the added one
+pub has_push : (x k : ℕ) (keys : List ℕ) → has x (keys ++ k ∷ []) ≡ true → (has x keys ≡ true) ⊎ (x ≡ k)
+has_push x k [] h = has_cases x k [] ((has x [] ≡ true) ⊎ (x ≡ k)) h (λ e. inr e) (λ m. inl m)
+has_push x k (j ∷ keys) h =
+    has_cases x j (keys ++ k ∷ []) ((has x (j ∷ keys) ≡ true) ⊎ (x ≡ k)) h
+    (λ e. inl (subst (λ z. has z (j ∷ keys) ≡ true) (sym e) (has-head j keys))) (λ m. later (has_push x k keys m))
+  where
+    later : (has x keys ≡ true) ⊎ (x ≡ k) → (has x (j ∷ keys) ≡ true) ⊎ (x ≡ k)
+    later (inl m) = inl (has-tail x j keys m)
+    later (inr e) = inr e

@@ -7,12 +7,13 @@ use Rattle.std.proofs.lemmas.List.Sums.{sum_by-set}
 use Rattle.lineage.specs.declared.node.Node.{Node}
 use Rattle.lineage.specs.Family.{has, path_in, EndsAlone}
 use Rattle.lineage.specs.Climbs.{IsClimb}
-use Rattle.lineage.specs.Lineages.{tip_at, is_key, is_above, node_at, above_node, links_to_key, family_on, IsOn, IsSoundFamily}
+use Rattle.lineage.specs.Lineages.{tip_at, is_key, is_above, node_at, link_at, links_to_key, family_on, IsOn, IsSoundFamily}
 use Rattle.lineage.proofs.KeyLists.{has-head, has-reverse, has_not_from}
-use Rattle.lineage.proofs.Climbs.{climb_step, climb_unique}
-use Rattle.lineage.proofs.Walks.{path_at, path_to_is, last_is, no_end}
+use Rattle.lineage.proofs.Climbs.{climb_cases, climb_unique}
+use Rattle.lineage.proofs.ClimbedPaths.{path_in_is, path_to_is, last_is, no_climb_from_vacant}
 use Rattle.lineage.proofs.Counts.{one_if, count_none, none_pass}
-use Rattle.lineage.proofs.KeptLinks.{is_above_true, is_key_true, node_from, node_climb}
+use Rattle.lineage.proofs.SoundNodes.{node_climb}
+use Rattle.lineage.proofs.Links.{is_above_true, is_key_true, node_from}
 use Rattle.lineage.proofs.ClimbsThrough.{climb_on, not_above}
 
 -- a key that is the tip of a path has a node
@@ -20,7 +21,7 @@ pub tip_node : {X : Type 0} (s : List (Option (Node X))) (tips : List (Option �
 tip_node {X} s tips path key sound tip = by (node_at s key) refl
   where
     by : (o : Option (Node X)) → node_at s key ≡ o → (n : Node X) × (node_at s key ≡ Some n)
-    by None e = absurd (no_end s (tip_at tips path) key (sound.ends path) tip e)
+    by None e = absurd (no_climb_from_vacant s (tip_at tips path) key (sound.ends path) tip e)
     by (Some n) e = (n, e)
 
 module _ {X : Type 0} (s : List (Option (Node X))) (tips : List (Option ℕ)) (path key : ℕ) (n : Node X) (sound : IsSoundFamily s tips)
@@ -43,7 +44,7 @@ module _ {X : Type 0} (s : List (Option (Node X))) (tips : List (Option ℕ)) (p
       omega (arith, a, b, is)
 
   has_path : (j : ℕ) → has key (path_in (family_on s tips) j) ≡ has key (sound.ends j).up
-  has_path j = let e = sound.ends j in ap (has key) (path_at s tips j ∙ path_to_is s (tip_at tips j) e.up e.is) ∙ has-reverse key e.up
+  has_path j = let e = sound.ends j in ap (has key) (path_in_is s tips j ∙ path_to_is s (tip_at tips j) e.up e.is) ∙ has-reverse key e.up
 
   pub alone_if_one_holder : n.holders ≡ 1 → EndsAlone (family_on s tips) path
   alone_if_one_holder one_holds = record {
@@ -51,7 +52,7 @@ module _ {X : Type 0} (s : List (Option (Node X))) (tips : List (Option ℕ)) (p
     last = last_is s tips path sound ∙ tip;
     own = λ j ne. has_not_from key (path_in (family_on s tips) j) (λ m.
         let e = sound.ends j in
-        climb_step (above_node s) (tip_at tips j) e.up key ⊥ e.is (sym (has_path j) ∙ m)
+        climb_cases (link_at s) (tip_at tips j) e.up key ⊥ e.is (sym (has_path j) ∙ m)
         (λ at. true≢false (sym (ap (is_key key) (get_or-set_other tips path j None None ne ∙ at) ∙ eq-eqb key key refl) ∙ none_pass (is_key key) without j refl no_tips))
         (λ i link _on. true≢false (sym (ap (is_above key) link ∙ eq-eqb key key refl) ∙ none_pass (links_to_key key) s i refl no_nodes)));
   }
@@ -71,7 +72,7 @@ module _ {X : Type 0} (s : List (Option (Node X))) (tips : List (Option ℕ)) (p
       own : (j : ℕ) → j ≢ path → has key (sound.ends j).up ≡ false
       own j ne = sym (has_path j) ∙ subst (λ k. has k (path_in (family_on s tips) j) ≡ false) same (e.own j ne)
 
-      begins : (at : Option ℕ) (up : List ℕ) → IsClimb (above_node s) at up → at ≡ Some key → has key up ≡ true
+      begins : (at : Option ℕ) (up : List ℕ) → IsClimb (link_at s) at up → at ≡ Some key → has key up ≡ true
       begins at [] h some = absurd (cc)
       begins at (k ∷ up) h some =
           let first : at ≡ Some k = h.0 in
@@ -87,23 +88,23 @@ module _ {X : Type 0} (s : List (Option (Node X))) (tips : List (Option ℕ)) (p
       no_tips : count_by (is_key key) without ≡ 0
       no_tips = count_none (is_key key) refl without (λ j. false_from_ne_true (is_key key (tip_at without j)) (tip_of j (cases_eq j path)))
 
-      up_here : (rest : List ℕ) × IsClimb (above_node s) (Some key) (key ∷ rest)
+      up_here : (rest : List ℕ) × IsClimb (link_at s) (Some key) (key ∷ rest)
       up_here = node_climb s tips sound key n there
 
-      on_path : (i : ℕ) → above_node s i ≡ Some (Some key) → (o : IsOn s tips i) → (o.path ≡ path) ⊎ (o.path ≢ path) → ⊥
+      on_path : (i : ℕ) → link_at s i ≡ Some (Some key) → (o : IsOn s tips i) → (o.path ≡ path) ⊎ (o.path ≢ path) → ⊥
       on_path i link o (inl is) =
           let at : tip_at tips o.path ≡ Some key = ap (tip_at tips) is ∙ tip in
-          not_above (above_node s) key up_here.0 up_here.1 i link
+          not_above (link_at s) key up_here.0 up_here.1 i link
           (subst (λ u. has i u ≡ true)
-          (climb_unique (above_node s) (Some key) o.up (key ∷ up_here.0) (subst (λ z. IsClimb (above_node s) z o.up) at o.is) up_here.1) o.on)
+          (climb_unique (link_at s) (Some key) o.up (key ∷ up_here.0) (subst (λ z. IsClimb (link_at s) z o.up) at o.is) up_here.1) o.on)
       on_path i link o (inr ne) =
-          let m = climb_on (above_node s) key up_here.0 up_here.1 i link (tip_at tips o.path) o.up o.is o.on key (has-head key up_here.0) in
-          let same_up = climb_unique (above_node s) (tip_at tips o.path) o.up (sound.ends o.path).up o.is (sound.ends o.path).is in
+          let m = climb_on (link_at s) key up_here.0 up_here.1 i link (tip_at tips o.path) o.up o.is o.on key (has-head key up_here.0) in
+          let same_up = climb_unique (link_at s) (tip_at tips o.path) o.up (sound.ends o.path).up o.is (sound.ends o.path).is in
           true≢false (sym (subst (λ u. has key u ≡ true) same_up m) ∙ own o.path ne)
 
-      node_of : (i : ℕ) → is_above key (above_node s i) ≡ true → ⊥
+      node_of : (i : ℕ) → is_above key (link_at s i) ≡ true → ⊥
       node_of i m =
-          let link = is_above_true key (above_node s i) m in
+          let link = is_above_true key (link_at s i) m in
           let w = node_from (node_at s i) (Some key) link in
           let o = sound.live i w.0 w.1.0 in
           on_path i link o (cases_eq o.path path)

@@ -8,11 +8,13 @@ use Rattle.std.proofs.lemmas.List.Sums.{sum_by-set}
 use Rattle.lineage.specs.declared.node.Node.{Node}
 use Rattle.lineage.specs.Family.{path_in, IsAdded}
 use Rattle.lineage.specs.Climbs.{IsClimb, Ends}
-use Rattle.lineage.specs.Lineages.{tip_at, is_key, node, node_at, item_in, above_in, above_node, path_to, links_to_key, holders_of, family_on, IsOn, IsSoundFamily}
+use Rattle.lineage.specs.Lineages.{tip_at, is_key, node, node_at, item_in, link_in, link_at, path_to, links_to_key, holders_of, family_on, IsOn, IsSoundFamily}
 use Rattle.lineage.proofs.KeyLists.{has-head, has-tail, reverse_cons}
-use Rattle.lineage.proofs.Walks.{path_to_is, path_at, item_is}
+use Rattle.lineage.proofs.ClimbedPaths.{path_to_is, path_in_is, item_is}
 use Rattle.lineage.proofs.Counts.{one_if, count_changed}
-use Rattle.lineage.proofs.KeptLinks.{climb_stays, path_stays, map_on_tips, absent_holders}
+use Rattle.lineage.proofs.KeptLinks.{climb_stays, path_stays}
+use Rattle.lineage.proofs.SoundNodes.{absent_holders}
+use Rattle.lineage.proofs.Maps.{map_on_tips}
 
 -- the nodes after a node is put at the end of a path
 pub record IsPushed {X : Type 0} (s t : List (Option (Node X))) (tips new : List (Option ℕ)) (path key : ℕ) (item : X) : Type 0 where
@@ -33,14 +35,14 @@ module _ {X : Type 0} (s t : List (Option (Node X))) (tips new : List (Option �
     (vacant : node_at s key ≡ None) (here : node_at t key ≡ Some (node item (tip_at tips path) 1)) (others : (k : ℕ) → k ≢ key → node_at t k ≡ node_at s k)
     (now : new ≡ set tips path (Some key)) where
   -- the new key had no link before, so each link that existed is unchanged
-  not_new : (k : ℕ) (next : Option ℕ) → above_node s k ≡ Some next → k ≢ key
-  not_new k next e same = let no : above_node s k ≡ None = ap (above_node s) same ∙ ap above_in vacant in cc
+  not_new : (k : ℕ) (next : Option ℕ) → link_at s k ≡ Some next → k ≢ key
+  not_new k next e same = let no : link_at s k ≡ None = ap (link_at s) same ∙ ap link_in vacant in cc
 
-  keeps : (k : ℕ) (next : Option ℕ) → above_node s k ≡ Some next → above_node t k ≡ Some next
-  keeps k next e = ap above_in (others k (not_new k next e)) ∙ e
+  keeps : (k : ℕ) (next : Option ℕ) → link_at s k ≡ Some next → link_at t k ≡ Some next
+  keeps k next e = ap link_in (others k (not_new k next e)) ∙ e
 
-  link : above_node t key ≡ Some (tip_at tips path)
-  link = ap above_in here
+  link : link_at t key ≡ Some (tip_at tips path)
+  link = ap link_in here
 
   tip_here : tip_at new path ≡ Some key
   tip_here = ap (λ l. tip_at l path) now ∙ get_or-set_same tips path (Some key) None within
@@ -49,35 +51,35 @@ module _ {X : Type 0} (s t : List (Option (Node X))) (tips new : List (Option �
   tip_other i ne = ap (λ l. tip_at l i) now ∙ get_or-set_other tips path i (Some key) None ne
 
   -- the climb from the new tip
-  climb_new : (up : List ℕ) → IsClimb (above_node s) (tip_at tips path) up → IsClimb (above_node t) (Some key) (key ∷ up)
+  climb_new : (up : List ℕ) → IsClimb (link_at s) (tip_at tips path) up → IsClimb (link_at t) (Some key) (key ∷ up)
   climb_new up h = (refl, (tip_at tips path, (link, climb_stays s t keeps (tip_at tips path) up h)))
 
-  ends_now : (i : ℕ) → (i ≡ path) ⊎ (i ≢ path) → Ends (above_node t) (tip_at new i)
+  ends_now : (i : ℕ) → (i ≡ path) ⊎ (i ≢ path) → Ends (link_at t) (tip_at new i)
   ends_now i (inl e) =
       let old = sound.ends path in
-      record { up = key ∷ old.up; is = subst (λ o. IsClimb (above_node t) o (key ∷ old.up)) (sym (ap (tip_at new) e ∙ tip_here)) (climb_new old.up old.is) }
+      record { up = key ∷ old.up; is = subst (λ o. IsClimb (link_at t) o (key ∷ old.up)) (sym (ap (tip_at new) e ∙ tip_here)) (climb_new old.up old.is) }
   ends_now i (inr ne) =
       let old = sound.ends i in
-      record { up = old.up; is = subst (λ o. IsClimb (above_node t) o old.up) (sym (tip_other i ne)) (climb_stays s t keeps (tip_at tips i) old.up old.is) }
+      record { up = old.up; is = subst (λ o. IsClimb (link_at t) o old.up) (sym (tip_other i ne)) (climb_stays s t keeps (tip_at tips i) old.up old.is) }
 
   on_now : (k : ℕ) (o : IsOn s tips k) → (o.path ≡ path) ⊎ (o.path ≢ path) → IsOn t new k
   on_now k o (inl e) = record {
     path = path;
     up = key ∷ o.up;
-    is = subst (λ z. IsClimb (above_node t) z (key ∷ o.up)) (sym tip_here) (climb_new o.up (subst (λ i. IsClimb (above_node s) (tip_at tips i) o.up) e o.is));
+    is = subst (λ z. IsClimb (link_at t) z (key ∷ o.up)) (sym tip_here) (climb_new o.up (subst (λ i. IsClimb (link_at s) (tip_at tips i) o.up) e o.is));
     on = has-tail k key o.up o.on;
   }
   on_now k o (inr ne) = record {
     path = o.path;
     up = o.up;
-    is = subst (λ z. IsClimb (above_node t) z o.up) (sym (tip_other o.path ne)) (climb_stays s t keeps (tip_at tips o.path) o.up o.is);
+    is = subst (λ z. IsClimb (link_at t) z o.up) (sym (tip_other o.path ne)) (climb_stays s t keeps (tip_at tips o.path) o.up o.is);
     on = o.on;
   }
 
   on_new : IsOn t new key
   on_new =
       let old = sound.ends path in
-      record { path = path; up = key ∷ old.up; is = subst (λ z. IsClimb (above_node t) z (key ∷ old.up)) (sym tip_here) (climb_new old.up old.is); on = has-head key old.up }
+      record { path = path; up = key ∷ old.up; is = subst (λ z. IsClimb (link_at t) z (key ∷ old.up)) (sym tip_here) (climb_new old.up old.is); on = has-head key old.up }
 
   -- only the new node's link adds a holder
   holders_now : (m : ℕ) → holders_of t new m ≡ holders_of s tips m + one_if (nat_eq m key)
@@ -126,7 +128,7 @@ module _ {X : Type 0} (s t : List (Option (Node X))) (tips new : List (Option �
   pushed_paths =
       ap (map (path_to t)) now ∙ map-set (path_to t) tips path (Some key)
       ∙ ap (λ l. set l path (path_to t (Some key))) (map_on_tips (path_to t) (path_to s) tips (λ i. path_stays s t keeps (tip_at tips i) (sound.ends i)))
-      ∙ ap (set (map (path_to s) tips) path) (pushed_last ∙ ap (λ l. l ++ key ∷ []) (sym (path_at s tips path)))
+      ∙ ap (set (map (path_to s) tips) path) (pushed_last ∙ ap (λ l. l ++ key ∷ []) (sym (path_in_is s tips path)))
 
   pub pushed_added : IsAdded (family_on s tips) (family_on t new) key item
   pushed_added = added s t tips new key (node item (tip_at tips path) 1) vacant here (λ k ne. ap item_in (others k ne))

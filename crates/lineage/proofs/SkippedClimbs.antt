@@ -1,5 +1,5 @@
 -- Climbs and counts when a key is skipped.
-use Rattle.std.proofs.Common.{◌≡◌, ◌≢◌, ℕ, ◌+◌, ◌<◌, ◌≤◌, zero, suc, Bool, true, false, not, cond, nat_eq, List, [], ◌∷◌, ◌++◌, length, map, reverse, get_or, Option, Some, None, refl, sym, ◌∙◌, ap, subst, arith, inl, inr, ◌⊎◌, eq-eqb, ne_eqb, append-nil}
+use Rattle.std.proofs.Common.{◌≡◌, ◌≢◌, ℕ, ◌+◌, ◌<◌, ◌≤◌, Bool, true, false, not, cond, nat_eq, List, [], ◌∷◌, ◌++◌, length, map, reverse, Option, Some, None, refl, sym, ◌∙◌, ap, subst, arith, inl, inr, ◌⊎◌, eq-eqb, ne_eqb, append-nil}
 use Rattle.std.specs.List.{count_by}
 use Rattle.std.proofs.lemmas.Bool.{cases_eq}
 use Rattle.std.proofs.lemmas.List.{length-map, ext_get_or}
@@ -9,6 +9,7 @@ use Rattle.lineage.specs.Climbs.{IsClimb}
 use Rattle.lineage.specs.Lineages.{tip_at, is_key, is_above, past}
 use Rattle.lineage.proofs.KeyLists.{has-head, has-tail, has_cases, reverse_cons}
 use Rattle.lineage.proofs.Counts.{one_if}
+use Rattle.lineage.proofs.Maps.{map_at}
 
 -- `past` of the link of a key, if the key has an item
 abbrev pub past_link : ℕ → Option ℕ → Option (Option ℕ) → Option (Option ℕ)
@@ -56,9 +57,10 @@ module _ (key : ℕ) (top : Option ℕ) where
           ap reverse (kept_other k up ne) ∙ reverse_cons k (keys_without key up) ∙ ap (λ l. l ++ k ∷ []) ih
           ∙ ap (λ l. keys_without key (reverse up) ++ l) (sym (kept_other k [] ne)) ∙ sym whole
 
-  pub has_without : (x : ℕ) (up : List ℕ) → x ≢ key → has x up ≡ true → has x (keys_without key up) ≡ true
-  has_without x [] ne h = h
-  has_without x (k ∷ up) ne h = by (cases_eq key k) (has_cases x k up ((x ≡ k) ⊎ (has x (keys_without key up) ≡ true)) h (λ e. inl e) (λ m. inr (has_without x up ne m)))
+  -- each other key stays
+  pub has-without_other : (x : ℕ) (up : List ℕ) → x ≢ key → has x up ≡ true → has x (keys_without key up) ≡ true
+  has-without_other x [] ne h = h
+  has-without_other x (k ∷ up) ne h = by (cases_eq key k) (has_cases x k up ((x ≡ k) ⊎ (has x (keys_without key up) ≡ true)) h (λ e. inl e) (λ m. inr (has-without_other x up ne m)))
     where
       by : (key ≡ k) ⊎ (key ≢ k) → (x ≡ k) ⊎ (has x (keys_without key up) ≡ true) → has x (keys_without key (k ∷ up)) ≡ true
       by (inl e) (inl same) = absurd (ne (same ∙ sym e))
@@ -129,16 +131,12 @@ sum_past f p q false (x ∷ xs) h =
     let d = h x in let e = sum_past f p q false xs h in
     omega (arith, a, b, d, e)
 
+-- how many items of a mapped list pass a test, counted in the list itself
 pub count_map : {A B : Type 0} (p : B → Bool) (f : A → B) (xs : List A) → count_by p (map f xs) ≡ count_by (λ x. p (f x)) xs
 count_map p f [] = refl
 count_map p f (x ∷ xs) =
     let a = sum_by-cons (λ y. one_if (p y)) (f x) (map f xs) in let b = sum_by-cons (λ y. one_if (p (f y))) x xs in let c = count_map p f xs in
     omega (arith, a, b, c)
-
-pub map_at : {A B : Type 0} (f : Option A → Option B) (xs : List (Option A)) (i : ℕ) → f None ≡ None → get_or (map f xs) i None ≡ f (get_or xs i None)
-map_at f [] i h = sym h
-map_at f (x ∷ xs) zero h = refl
-map_at f (x ∷ xs) (suc i) h = map_at f xs i h
 
 pub cond_add : (b : Bool) (x y : ℕ) → cond b x 0 + cond b y 0 ≡ cond b (x + y) 0
 cond_add true x y = refl

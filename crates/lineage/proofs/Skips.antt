@@ -1,23 +1,25 @@
--- Removing a node. Each link to the node becomes a link to the node above it.
+-- Taking out a node. Each link to the node becomes a link to the node above it.
 use Rattle.std.proofs.Common.{◌≡◌, ◌≢◌, ℕ, ◌+◌, ◌-◌, ◌<◌, ◌≤◌, ◌^◌, Bool, true, false, cond, nat_eq, List, [], ◌∷◌, length, map, get_or, set, Option, Some, None, refl, sym, ◌∙◌, ap, subst, arith, inl, inr, ◌⊎◌, eq-eqb, ne_eqb, true≢false}
 use Rattle.std.specs.Prelude.{is_some, IsSome, IfSome}
 use Rattle.std.specs.List.{count_by}
 use Rattle.std.proofs.lemmas.Bool.{cases_eq, cases_lt}
 use Rattle.std.proofs.lemmas.List.{get_or-set_same, get_or-set_other, length-map}
-use Rattle.std.proofs.lemmas.List.Sums.{sum_by-set, get_or-le-sum_by}
+use Rattle.std.proofs.lemmas.List.Sums.{sum_by-set, get_or-le-sum_by, count_by-le-length}
 use Rattle.lineage.specs.declared.node.Node.{Node}
 use Rattle.lineage.specs.Family.{has, keys_without, item_at}
 use Rattle.lineage.specs.Climbs.{IsClimb}
-use Rattle.lineage.specs.Lineages.{tip_at, is_key, is_above, node, node_at, item_in, above_in, above_node, path_to, links_to_key, holders_of, past, past_node, passed_on, family_on, IsSoundFamily}
+use Rattle.lineage.specs.Lineages.{tip_at, is_key, is_above, node, node_at, item_in, link_in, link_at, path_to, links_to_key, holders_of, past, past_node, passed_on, family_on, IsSoundFamily}
 use Rattle.lineage.proofs.KeyLists.{has-head}
-use Rattle.lineage.proofs.Walks.{path_to_is, item_is, link_within}
-use Rattle.lineage.proofs.Counts.{one_if, count_changed, count_same, count_few}
-use Rattle.lineage.proofs.KeptLinks.{map_on_tips, map-map, node_climb, node_from, linked_there}
+use Rattle.lineage.proofs.ClimbedPaths.{path_to_is, item_is, link_within}
+use Rattle.lineage.proofs.Counts.{one_if, count_changed, count_same}
+use Rattle.lineage.proofs.SoundNodes.{node_climb, linked_there}
+use Rattle.lineage.proofs.Maps.{map_on_tips, map-map, map_at}
+use Rattle.lineage.proofs.Links.{node_from}
 use Rattle.lineage.proofs.Climbs.{not_again}
-use Rattle.lineage.proofs.SkippedClimbs.{past_link, past_unless_key, without-reverse, has_without, climb_past, each_past, each_past_link, sum_past, count_map, map_at, cond_add, sum_apart}
+use Rattle.lineage.proofs.SkippedClimbs.{past_link, past_unless_key, without-reverse, has-without_other, climb_past, each_past, each_past_link, sum_past, count_map, cond_add, sum_apart}
 
 module _ {X : Type 0} where
-  skipped_link : (key : ℕ) (top : Option ℕ) (b : Bool) (h : ℕ) (o : Option (Node X)) → above_in (past_node key top (passed_on b h o)) ≡ past_link key top (above_in o)
+  skipped_link : (key : ℕ) (top : Option ℕ) (b : Bool) (h : ℕ) (o : Option (Node X)) → link_in (past_node key top (passed_on b h o)) ≡ past_link key top (link_in o)
   skipped_link key top true h None = refl
   skipped_link key top false h None = refl
   skipped_link key top true h (Some m) = refl
@@ -53,12 +55,12 @@ module _ {X : Type 0} where
     pub not_itself : n.above ≡ Some key → ⊥
     not_itself e =
         let c = node_climb s tips sound key n there in
-        let links : Some c.1.1.0 ≡ Some n.above = sym c.1.1.1.0 ∙ ap above_in there in
+        let links : Some c.1.1.0 ≡ Some n.above = sym c.1.1.1.0 ∙ ap link_in there in
         let next : c.1.1.0 ≡ Some key = let a : c.1.1.0 ≡ n.above = cc in a ∙ e in
-        let again : has key c.0 ≡ true = first c.0 (subst (λ o. IsClimb (above_node s) o c.0) next c.1.1.1.1) in
-        true≢false (sym again ∙ not_again (above_node s) key c.0 c.1)
+        let again : has key c.0 ≡ true = first c.0 (subst (λ o. IsClimb (link_at s) o c.0) next c.1.1.1.1) in
+        true≢false (sym again ∙ not_again (link_at s) key c.0 c.1)
       where
-        first : (up : List ℕ) → IsClimb (above_node s) (Some key) up → has key up ≡ true
+        first : (up : List ℕ) → IsClimb (link_at s) (Some key) up → has key up ≡ true
         first [] h = absurd (cc)
         first (k ∷ up) h = let a : Some key ≡ Some k = h.0 in let same : key ≡ k = cc in subst (λ z. has z (k ∷ up) ≡ true) (sym same) (has-head k up)
 
@@ -69,7 +71,7 @@ module _ {X : Type 0} where
         by : (o : Option ℕ) → n.above ≡ o → IfSome o (λ k. IsSome (node_at r k))
         by None e = tt
         by (Some k) e =
-            let l = linked_there s tips sound key k (ap above_in there ∙ ap Some e) in
+            let l = linked_there s tips sound key k (ap link_in there ∙ ap Some e) in
             let w = node_from (node_at s k) l.0 l.1 in
             subst IsSome (sym (others k (λ same. not_itself (e ∙ ap Some same)) ∙ w.1.0)) refl
 
@@ -80,11 +82,11 @@ module _ {X : Type 0} where
         let ne : k ≢ key = λ same. not_itself (e ∙ ap Some same) in
         let a = sound.counted k m (sym (others k ne) ∙ here) in
         let b = sound.counted key n there in
-        let some = get_or-le-sum_by (λ o. one_if (links_to_key k o)) s key None (link_within s key n.above (ap above_in there)) in
+        let some = get_or-le-sum_by (λ o. one_if (links_to_key k o)) s key None (link_within s key n.above (ap link_in there)) in
         let c : one_if (links_to_key k (node_at s key)) ≡ 1 = ap (λ o. one_if (links_to_key k o)) there ∙ ap (λ o. one_if (is_key k o)) e ∙ ap one_if (eq-eqb k k refl) in
         let d = sum_apart (is_key k) (is_key key) (λ _. true) tips (apart_tip k ne) in
         let f = sum_apart (links_to_key k) (links_to_key key) is_some s (apart_node k ne) in
-        let h = count_few (λ (_ : Option ℕ). true) tips in
+        let h = count_by-le-length (λ (_ : Option ℕ). true) tips in
         let few = sound.few in
         (omega (arith, a, some, c), omega (arith, a, b, d, f, h, few, some, c))
       where
@@ -128,16 +130,16 @@ module _ {X : Type 0} where
     itself : n.above ≡ Some key → ⊥
     itself = not_itself s tips key n sound there
 
-    links_now : (k : ℕ) → k ≢ key → above_node t k ≡ past_link key n.above (above_node s k)
-    links_now k ne = ap above_in (others k ne) ∙ skipped_link key n.above (is_key k n.above) n.holders (node_at s k)
+    links_now : (k : ℕ) → k ≢ key → link_at t k ≡ past_link key n.above (link_at s k)
+    links_now k ne = ap link_in (others k ne) ∙ skipped_link key n.above (is_key k n.above) n.holders (node_at s k)
 
     tip_is : (i : ℕ) → tip_at new i ≡ past key n.above (tip_at tips i)
     tip_is i = ap (λ l. tip_at l i) now ∙ map_at (past key n.above) tips i refl
 
-    climbs : (i : ℕ) (up : List ℕ) → IsClimb (above_node s) (tip_at tips i) up → IsClimb (above_node t) (tip_at new i) (keys_without key up)
+    climbs : (i : ℕ) (up : List ℕ) → IsClimb (link_at s) (tip_at tips i) up → IsClimb (link_at t) (tip_at new i) (keys_without key up)
     climbs i up h =
-        subst (λ o. IsClimb (above_node t) o (keys_without key up)) (sym (tip_is i))
-        (climb_past (above_node s) (above_node t) key n.above (ap above_in there) itself links_now (tip_at tips i) up h)
+        subst (λ o. IsClimb (link_at t) o (keys_without key up)) (sym (tip_is i))
+        (climb_past (link_at s) (link_at t) key n.above (ap link_in there) itself links_now (tip_at tips i) up h)
 
     not_key : (k : ℕ) (m : Node X) → node_at t k ≡ Some m → k ≢ key
     not_key k m e same = let none : node_at t k ≡ None = ap (node_at t) same ∙ gone in cc
@@ -146,7 +148,7 @@ module _ {X : Type 0} where
     was k m e = skipped_was key n.above (is_key k n.above) n.holders (node_at s k) m (sym (others k (not_key k m e)) ∙ e)
 
     within : key < length s
-    within = link_within s key n.above (ap above_in there)
+    within = link_within s key n.above (ap link_in there)
 
     abbrev rest : List (Option (Node X))
     rest = set s key None
@@ -159,16 +161,16 @@ module _ {X : Type 0} where
 
     nodes_now : (m : ℕ) → m ≢ key → count_by (links_to_key m) t + one_if (is_key m n.above) ≡ count_by (links_to_key m) s + cond (is_key m n.above) (count_by (links_to_key key) s) 0
     nodes_now m ne =
-        let p = λ (o : Option (Node X)). is_above m (past_link key n.above (above_in o)) in
+        let p = λ (o : Option (Node X)). is_above m (past_link key n.above (link_in o)) in
         let a = count_same (links_to_key m) refl (map (past_node key n.above) rest) t (λ j. each j (cases_eq j key)) in
         let b = count_map (links_to_key m) (past_node key n.above) rest in
         let c = sum_past (λ o. links_to_key m (past_node key n.above o)) p p false rest (λ o. ap one_if (same o) ∙ (let z : one_if (p o) ≡ one_if (p o) + 0 = omega arith in z)) in
         let d = sum_by-set (λ o. one_if (p o)) s key None None within in
-        let e = sum_past p (links_to_key m) (links_to_key key) (is_key m n.above) s (λ o. each_past_link key m n.above ne (above_in o)) in
+        let e = sum_past p (links_to_key m) (links_to_key key) (is_key m n.above) s (λ o. each_past_link key m n.above ne (link_in o)) in
         let f : one_if (p (node_at s key)) ≡ one_if (is_key m n.above) = ap (λ o. one_if (p o)) there ∙ ap (λ o. one_if (is_key m o)) (past_unless_key key n.above n.above itself) in
         omega (arith, a, b, c, d, e, f)
       where
-        same : (o : Option (Node X)) → links_to_key m (past_node key n.above o) ≡ is_above m (past_link key n.above (above_in o))
+        same : (o : Option (Node X)) → links_to_key m (past_node key n.above o) ≡ is_above m (past_link key n.above (link_in o))
         same None = refl
         same (Some w) = refl
 
@@ -219,7 +221,7 @@ module _ {X : Type 0} where
       live = λ k m e.
           let w = was k m e in
           let o = sound.live k w.0 w.1.0 in
-          record { path = o.path; up = keys_without key o.up; is = climbs o.path o.up o.is; on = has_without key n.above k o.up (not_key k m e) o.on };
+          record { path = o.path; up = keys_without key o.up; is = climbs o.path o.up o.is; on = has-without_other key n.above k o.up (not_key k m e) o.on };
       counted = counted_now;
       few =
           let a = ap length now in let b = length-map tips (past key n.above) in

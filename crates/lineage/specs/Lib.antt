@@ -1,4 +1,4 @@
-pub mod Words
+pub mod KeyWords
 pub mod Family
 pub mod Climbs
 pub mod Lineages

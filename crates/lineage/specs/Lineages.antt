@@ -42,18 +42,18 @@ module _ {X : Type 0} where
   item_in (Some n) = Some n.item
 
   -- the link of a node, if there is a node; the link is None if it is to no key
-  abbrev pub above_in : Option (Node X) → Option (Option ℕ)
-  above_in None = None
-  above_in (Some n) = Some n.above
+  abbrev pub link_in : Option (Node X) → Option (Option ℕ)
+  link_in None = None
+  link_in (Some n) = Some n.above
 
   -- the link of the node at key k, if there is a node
-  abbrev pub above_node : List (Option (Node X)) → ℕ → Option (Option ℕ)
-  above_node s k = above_in (node_at s k)
+  abbrev pub link_at : List (Option (Node X)) → ℕ → Option (Option ℕ)
+  link_at s k = link_in (node_at s k)
 
   -- the key `at`, the key that it links to, and so on, but at most `length s` keys; stops before a
   -- key without a node
   abbrev pub keys_up : List (Option (Node X)) → Option ℕ → List ℕ
-  keys_up s at = climb (above_node s) (length s) at
+  keys_up s at = climb (link_at s) (length s) at
 
   -- the keys of the path that ends with `at`, from the first down
   abbrev pub path_to : List (Option (Node X)) → Option ℕ → List ℕ
@@ -61,7 +61,7 @@ module _ {X : Type 0} where
 
   -- whether there is a node and it links to key k
   abbrev pub links_to_key : ℕ → Option (Node X) → Bool
-  links_to_key k o = is_above k (above_in o)
+  links_to_key k o = is_above k (link_in o)
 
   -- the number of tips (last keys of paths) and nodes that link to key k
   abbrev pub holders_of : List (Option (Node X)) → List (Option ℕ) → ℕ → ℕ
@@ -118,14 +118,14 @@ module _ {X : Type 0} where
   pub record IsOn (s : List (Option (Node X))) (tips : List (Option ℕ)) (k : ℕ) : Type 0 where
     pub path : ℕ
     pub up : List ℕ
-    pub is : IsClimb (above_node s) (tip_at tips path) up
+    pub is : IsClimb (link_at s) (tip_at tips path) up
     pub on : has k up ≡ true
 
   -- the invariant of nodes and tips: from each tip, links lead up to a key that links to none; each
   -- node is on a path, and its number of holders is that of the tips and nodes that link to it; and
   -- there are fewer than 2^64 tips and nodes together, so that a word can count holders
   pub record IsSoundFamily (s : List (Option (Node X))) (tips : List (Option ℕ)) : Type 0 where
-    pub ends : (i : ℕ) → Ends (above_node s) (tip_at tips i)
+    pub ends : (i : ℕ) → Ends (link_at s) (tip_at tips i)
     pub live : (k : ℕ) (n : Node X) → node_at s k ≡ Some n → IsOn s tips k
     pub counted : (k : ℕ) (n : Node X) → node_at s k ≡ Some n → n.holders ≡ holders_of s tips k
     pub few : length tips + count_by is_some s < 2 ^ 64
@@ -135,8 +135,8 @@ module _ {X : Type 0} where
   -- Otherwise nodes and tips are as `IsSoundFamily` says. Each node that is left has the item and
   -- the link that it has in `first`.
   pub record IsReleasing (first s : List (Option (Node X))) (tips : List (Option ℕ)) (at : Option ℕ) : Type 0 where
-    pub ends : (i : ℕ) → Ends (above_node s) (tip_at tips i)
-    pub going : Ends (above_node s) at
+    pub ends : (i : ℕ) → Ends (link_at s) (tip_at tips i)
+    pub going : Ends (link_at s) at
     pub live : (k : ℕ) (n : Node X) → node_at s k ≡ Some n → IsOn s tips k ⊎ (has k going.up ≡ true)
     pub counted : (k : ℕ) (n : Node X) → node_at s k ≡ Some n → n.holders ≡ holders_of s tips k + (if is_key k at then 1 else 0)
     pub few : length tips + count_by is_some s < 2 ^ 64

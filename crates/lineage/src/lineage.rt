@@ -4,7 +4,7 @@ ghost use Rattle.std.specs.Prelude.{ℕ, ◌≡◌, ◌≤◌, List, ◌++◌, l
 ghost use Rattle.std.specs.Option.{option_copied, option_map};
 ghost use Rattle.lineage.specs.Family.{item_at, path_in, last_of, EndsAlone, IsFamily};
 ghost use Rattle.lineage.specs.Climbs.{Ends};
-ghost use Rattle.lineage.specs.Lineages.{above_node, path_to, tip_at};
+ghost use Rattle.lineage.specs.Lineages.{link_at, path_to, tip_at};
 
 mod divide;
 mod exchange;
@@ -14,7 +14,7 @@ mod release;
 mod take_out;
 
 use crate::node::Node;
-pub use crate::node::{Above, Key};
+pub use crate::node::{Key, KeyWord};
 use slab::Slab;
 use std::alloc::{AllocError, Global};
 use std::marker::Model;
@@ -27,7 +27,7 @@ use std::mem;
 pub struct Lineage<X> {
     nodes: Slab<Node<X>>,
     // each path's last key
-    tips: Vec<Above>,
+    tips: Vec<KeyWord>,
 }
 
 impl<X> Model for Lineage<X> {
@@ -67,7 +67,7 @@ impl<X: Drop> Lineage<X> {
 
     /// The number of items that there is memory for, including those that exist. The key of each
     /// item is less than this number.
-    pub fn room(&self) -> usize
+    pub fn capacity(&self) -> usize
         ensures { (k : ℕ) → result ≤ k → item_at self.now k ≡ None }
     {
         self.nodes.capacity()
@@ -91,7 +91,7 @@ impl<X: Drop> Lineage<X> {
 
     /// The last key of the path at an index, in the form that `climb` takes; no key if there is no
     /// such path, or if the path has no item.
-    pub fn tip(&self, path: usize) -> Above
+    pub fn tip(&self, path: usize) -> KeyWord
         ensures { result ≡ last_of (path_in self.now path) }
     {
         tip_at(&self.tips, path)
@@ -167,7 +167,7 @@ impl<X: Drop> Lineage<X> {
     /// The item at `key`, which has to exist, and the key right before `key` in each path that has
     /// `key`, or no key if `key` is the first of a path.
     #[inline(always)]
-    pub fn step_up_from(&self, key: Key) -> (&X, Above)
+    pub fn step_up_from(&self, key: Key) -> (&X, KeyWord)
         requires { IsSome (item_at self.now key) }
         ensures item { Some result.0.now ≡ item_at self.now key }
         ensures each { (i : ℕ) (front back : List ℕ) → path_in self.now i ≡ front ++ key ∷ back
@@ -181,7 +181,7 @@ impl<X: Drop> Lineage<X> {
     /// and the key right before `at` in each path that has `at`, or no key if `at` is the first.
     /// `None` if `at` is no key (the walk has ended), or has no item.
     #[inline(always)]
-    pub fn climb(&self, at: Above) -> Option<(Key, &X, Above)>
+    pub fn climb(&self, at: KeyWord) -> Option<(Key, &X, KeyWord)>
         ensures key { IfSome result (λ s. at ≡ Some s.0) }
         ensures item { IfSome result (λ s. item_at self.now s.0 ≡ Some s.1.now) }
         ensures each { IfSome result (λ s. (i : ℕ) (front back : List ℕ)
@@ -208,12 +208,12 @@ impl<X: Drop> Lineage<X> {
 
 /// The last key of the path at an index; no key if there is no such path, or if the path has no
 /// item.
-fn tip_at(tips: &[Above], path: usize) -> Above
+fn tip_at(tips: &[KeyWord], path: usize) -> KeyWord
     ensures { result ≡ tip_at tips.now path }
 {
     match tips.get(path) {
         Some(tip) => *tip,
-        None => Above::none(),
+        None => KeyWord::none(),
     }
 }
 
@@ -223,7 +223,7 @@ fn keys_down_to<X>(
     nodes: &Slab<Node<X>>,
     tip: Option<Key>,
 ) -> Result<Vec<Key>, AllocError>
-    requires { Ends (above_node nodes.now.slots) tip }
+    requires { Ends (link_at nodes.now.slots) tip }
     ensures { IfOk result (λ keys. keys.items ≡ path_to nodes.now.slots tip) }
 {
     let mut keys = Vec::new(alloc);

@@ -11,49 +11,49 @@ pub type Key = usize;
 
 /// A key or no key, stored in one word. In contracts it is an option of a key.
 #[derive(Debug, Drop)]
-pub struct Above {
+pub struct KeyWord {
     // `usize::MAX` means no key: no slab has enough slots for such a key
     pub(crate) word: usize,
 }
 
-impl Model for Above {
+impl Model for KeyWord {
     ghost use Rattle.std.specs.Prelude.{ℕ, Option};
 
     ghost Value = { Option ℕ };
 
-    ghost use Rattle.lineage.specs.Words.{key_of_word, word_of_key};
+    ghost use Rattle.lineage.specs.KeyWords.{key_of_word, word_of_key};
 
     ghost view = { λ a. key_of_word a.word };
 
     ghost inverse = { λ o. record { word = word_of_key o } };
 }
 
-impl Copy for Above {}
+impl Copy for KeyWord {}
 
-impl Clone for Above {
-    ghost is_clone = { λ above copy. copy ≡ above };
+impl Clone for KeyWord {
+    ghost is_clone = { λ word copy. copy ≡ word };
 
-    fn clone(&self) -> Result<Above, AllocError> {
+    fn clone(&self) -> Result<KeyWord, AllocError> {
         Ok(*self)
     }
 }
 
-impl Above {
+impl KeyWord {
     /// No key, in one word.
     #[inline(always)]
-    pub(crate) fn none() -> Above
+    pub(crate) fn none() -> KeyWord
         ensures { result ≡ None }
     {
-        Above { word: usize::MAX }
+        KeyWord { word: usize::MAX }
     }
 
     /// This key, in one word. The key has to be less than the greatest word, which means no key.
     #[inline(always)]
-    pub(crate) fn of(key: Key) -> Above
+    pub(crate) fn of(key: Key) -> KeyWord
         requires { key < 2 ^ 64 - 1 }
         ensures { result ≡ Some key }
     {
-        Above { word: key }
+        KeyWord { word: key }
     }
 
     /// The key as an option; `None` if there is no key.
@@ -74,6 +74,6 @@ impl Above {
 #[derive(Drop)]
 pub(crate) struct Node<X> {
     pub(crate) item: X,
-    pub(crate) above: Above,
+    pub(crate) above: KeyWord,
     pub(crate) holders: usize,
 }

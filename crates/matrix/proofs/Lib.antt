@@ -1,7 +1,7 @@
 pub mod Codes
+pub mod CodedHistory
 pub mod Phases
 pub mod PhaseSteps
-pub mod Moves
-pub mod HistorySteps
+pub mod OperationSteps
 pub mod RanksFromCodes
 pub mod Kept

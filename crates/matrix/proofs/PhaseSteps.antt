@@ -1,7 +1,9 @@
--- Each step of a matrix's program keeps the invariant.
-use Rattle.std.proofs.Common.{◌≡◌, ℕ, zero, suc, ◌+◌, ◌*◌, ◌<◌, ◌≤◌, ◌==◌, max, Bool, true, false, ◌∷◌, List, Option, Some, None, IsTrue, inl, inr, refl, sym, ap, subst, ◌∙◌, arith, eq-eqb, eqb-true, lt-ltb, ltb-true, ltb-false, ne_eqb}
-use Rattle.std.specs.Prelude.{◌⊎◌, ⊤, ◌||◌, nat_lt, if◌then◌else◌, length}
+-- How a process moves from one phase to another; and that the reads and writes of parts, as they
+-- begin and end, keep the invariant.
+use Rattle.std.proofs.Common.{◌≡◌, ℕ, zero, suc, ◌+◌, ◌*◌, ◌%◌, ◌<◌, ◌≤◌, ◌==◌, max, Bool, true, false, ◌∷◌, List, Option, Some, None, IsTrue, inl, inr, refl, sym, ap, subst, ◌∙◌, arith, eq-eqb, eqb-true, lt-ltb, ltb-true, ltb-false, ne_eqb}
+use Rattle.std.specs.Prelude.{◌/◌, ◌⊎◌, ⊤, ◌||◌, nat_lt, if◌then◌else◌, length}
 use Rattle.std.proofs.lemmas.Bool.{cases_eq, cases_lt}
+use Rattle.std.proofs.lemmas.Nat.{div-mul-add, mod-mul-add}
 use Rattle.frames.specs.declared.types.Op.{Op}
 use Rattle.frames.specs.declared.types.Op.TheVariants.{Read, Write}
 use Rattle.frames.specs.declared.types.Event.TheVariants.{Invoke, Got, Wrote}
@@ -9,8 +11,9 @@ use Rattle.frames.specs.correctness.Regularity.{in_progress}
 use Rattle.frames.proofs.Seen.{Seen, among, sees, now_last, IsNotStray}
 use Rattle.frames.proofs.VerdictFacts.{fresh_or_overlapping}
 use Rattle.frames.proofs.Pointwise.{put, put_same, put_other, put_all}
-use Rattle.matrix.proofs.Codes.{Coded, IsKnownCode, greatest_so_far_known, writer_of, part_numbers_apart}
-use Rattle.matrix.proofs.Phases.{Phase, Rests, WillRead, IsReading, WillWrite, IsWriting, row_last, row_writing, row_count, PartShows, WritesCode, HasNoCode, HasTakenCode, KnowsColumn, ReadsPart, WritesRow, HoldsInPhase, Invariant, Later, later_same, OverlapsGrow, overlaps_same, holds_in_phase_later}
+use Rattle.matrix.proofs.Codes.{writer_of}
+use Rattle.matrix.proofs.CodedHistory.{Coded, IsKnownCode, greatest_so_far_known}
+use Rattle.matrix.proofs.Phases.{Phase, Rests, WillRead, IsReading, WillWrite, IsWriting, row_last, row_writing, row_count, PartShows, WritesCode, HasNoCode, HasTakenCode, KnowsColumn, ReadsPart, WritesRow, HoldsInPhase, Invariant, StaysFor, stays_for_same, OverlapsGrow, overlaps_same, holds_in_phase_later}
 
 -- the codes that p's writes have taken name p, and each is at most the code that p holds, or is
 -- being written to p's row
@@ -28,6 +31,7 @@ pub record SameWrites (s t : Seen) : Type 0 where
   pub writing : t.writing ≡ s.writing
   pub count : length (t.overlaps 0) ≡ length (s.overlaps 0)
 
+-- a part shows the same of its writes as itself
 same_writes_refl : (s : Seen) → SameWrites s s
 same_writes_refl s = record { last = refl; writing = refl; count = refl }
 
@@ -51,11 +55,13 @@ pub record Recodes (n p : ℕ) (c d : Coded) : Type 0 where
   pub known : IsKnownCode d (d.held p)
   pub below : (a : ℕ) → a < n → d.held_at_start p a ≤ d.held a
   pub later : (k : ℕ) → d.count p < k → d.code p k ≡ None
-  pub others : (q : ℕ) → (q ≡ p → ⊥) → Later n q c d
+  pub others : (q : ℕ) → (q ≡ p → ⊥) → StaysFor n q c d
 
+-- nothing that is known of codes changes
 pub recodes_same : (n V p : ℕ) (c : Coded) (f : ℕ → Phase) (parts : ℕ → Seen) → p < n → Invariant n V c f parts → Recodes n p c c
-recodes_same n V p c f parts lp h = record { top = h.top; known = h.known p lp; below = h.below p; later = h.later p; others = λ q ne. later_same n q c }
+recodes_same n V p c f parts lp h = record { top = h.top; known = h.known p lp; below = h.below p; later = h.later p; others = λ q ne. stays_for_same n q c }
 
+-- the invariant holds after p moves from phase z to phase x, and what is known of codes changes
 pub invariant_after : (n V p : ℕ) (c d : Coded) (z x : Phase) (f : ℕ → Phase) (parts to : ℕ → Seen) → p < n → f p ≡ z → Invariant n V c f parts → Moves n V p c d z x parts to → Recodes n p c d → Invariant n V d (put p x f) to
 invariant_after n V p c d z x f parts to lp is h move m = record {
   row = λ a b la lb. put_all (λ a y. a < n → PartShows (d.held a) (d.rows a) y b (to (a * n + b))) p x f
@@ -82,6 +88,11 @@ invariant_after n V p c d z x f parts to lp is h move m = record {
   works = λ q lq. put_all (λ q z. q < n → HoldsInPhase n d q to z) p x f (λ l. move.works)
       (λ q ne l. holds_in_phase_later n q c d parts to l (m.others q ne) (λ a la. move.more q a l la ne) (f q) (h.works q l)) q lq;
 }
+
+-- parts in different rows or columns have different numbers
+part_numbers_apart : (n a b d e : ℕ) → b < n → e < n → (a ≡ d → b ≡ e → ⊥) → a * n + b ≡ d * n + e → ⊥
+part_numbers_apart n a b d e lb le ne same =
+    ne (sym (div-mul-add a n b lb) ∙ ap (λ x. x / n) same ∙ div-mul-add d n e le) (sym (mod-mul-add a n b lb) ∙ ap (λ x. x % n) same ∙ mod-mul-add d n e le)
 
 -- process p invokes the read of part j of its column
 pub column_asked : (n V p : ℕ) (c : Coded) (o : Op) (j g : ℕ) (f : ℕ → Phase) (parts : ℕ → Seen) → p < n → j < n → f p ≡ WillRead o j g → Invariant n V c f parts
@@ -126,6 +137,7 @@ column_asked n V p c o j g f parts lp lj is h =
         go (WillWrite q i y) e w = as_row i y (nat_lt p i) w.held w.known e
         go (IsWriting q i y) e w = as_row i y (nat_lt p i) w.held w.known e
 
+    -- what is being written to this part, if anything is, is no lower than what its writer held
     over_known : (x : Phase) (y : ℕ) → c.held_at_start p j ≤ c.held j → (parts (j * n + p)).writing ≡ row_writing (f j) p → f j ≡ x → IsTrue (among y (in_progress (parts (j * n + p)).writing)) → (c.held_at_start p j ≤ y) × IsKnownCode c y
     over_known x y low e ex m = go x (e ∙ ap (λ z. row_writing z p) ex) (subst (HoldsInPhase n c j parts) ex (h.works j lj))
       where
@@ -166,7 +178,7 @@ column_given n V p c o j g x f parts lp is h good =
         | inl e ↦ (let s : c.held_at_start p a ≡ c.held_at_start p j = ap (c.held_at_start p) e in omega (arith, s, seen))
         | inr ne ↦ (let s : c.held_at_start p a ≤ g = w.0.at_least a (omega (arith, la, ne)) in omega (arith, s))
       ];
-      heard = inr (greatest_so_far_known c g x (elim (w.0.heard) [ inl z ↦ inl z.1 | inr k ↦ inr k ]) u.1);
+      greatest_known = inr (greatest_so_far_known c g x (elim (w.0.greatest_known) [ inl z ↦ inl z.1 | inr k ↦ inr k ]) u.1);
       free = w.0.free;
     })) (recodes_same n V p c f parts lp h)
   where
@@ -186,6 +198,7 @@ other_part_last h j x b ne = go (nat_lt b j) refl (nat_lt b (j + 1)) refl
     go true e false i = absurd (let p = ltb-true b j e in let q = ltb-false b (j + 1) i in omega (arith, p, q))
     go false e true i = absurd (let p = ltb-false b j e in let q = ltb-true b (j + 1) i in omega (arith, p, q, ne))
 
+-- before part j of a row is written, it is as it was
 pub part_itself_unwritten : (h j x : ℕ) → (if nat_lt j j then x else h) ≡ h
 part_itself_unwritten h j x = go (nat_lt j j) refl
   where

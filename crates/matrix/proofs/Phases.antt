@@ -6,7 +6,8 @@ use Rattle.std.proofs.lemmas.Bool.{cases_eq, cases_lt}
 use Rattle.frames.specs.declared.types.Op.{Op}
 use Rattle.frames.specs.declared.types.Op.TheVariants.{Read, Write}
 use Rattle.frames.proofs.Seen.{Seen, among}
-use Rattle.matrix.proofs.Codes.{Coded, IsKnownCode, writer_of}
+use Rattle.matrix.proofs.Codes.{writer_of}
+use Rattle.matrix.proofs.CodedHistory.{Coded, IsKnownCode}
 
 -- A process rests; or it is about to read part j of its column, or reads it, and has found g to be
 -- the greatest code so far; or it is about to write x to part j of its row, or writes it.
@@ -72,7 +73,7 @@ pub record KnowsColumn (n : ℕ) (c : Coded) (p : ℕ) (o : Op) (j g : ℕ) : Ty
   pub own : c.held_at_start p p ≡ c.held p
   pub witness : (a : ℕ) × ((a < n) × (c.floor p ≤ c.held_at_start p a))
   pub at_least : (a : ℕ) → a < j → c.held_at_start p a ≤ g
-  pub heard : ((j ≡ 0) × (g ≡ 0)) ⊎ IsKnownCode c g
+  pub greatest_known : ((j ≡ 0) × (g ≡ 0)) ⊎ IsKnownCode c g
   pub free : HasNoCode c p o
 
 -- the read of part j of p's column may give no code below what the part's writer held when p's
@@ -111,7 +112,7 @@ pub record Invariant (n V : ℕ) (c : Coded) (f : ℕ → Phase) (parts : ℕ �
 
 -- what others do from c to d leaves what process q relies on: what is known of q itself is the
 -- same, no process holds a lower code, and known codes stay known
-pub record Later (n q : ℕ) (c d : Coded) : Type 0 where
+pub record StaysFor (n q : ℕ) (c d : Coded) : Type 0 where
   pub held : (a : ℕ) → a < n → c.held a ≤ d.held a
   pub own : c.held q ≡ d.held q
   pub held_at_start : (a : ℕ) → c.held_at_start q a ≡ d.held_at_start q a
@@ -124,11 +125,13 @@ pub record Later (n q : ℕ) (c d : Coded) : Type 0 where
   pub rows : c.rows q ≡ d.rows q
   pub known : (x : ℕ) → IsKnownCode c x → IsKnownCode d x
 
-pub later_same : (n q : ℕ) (c : Coded) → Later n q c c
-later_same n q c = record { held = λ a la. omega arith; own = refl; held_at_start = λ a. refl; floor = refl; value = refl; count = refl; code = λ k. refl; writing = refl; limit = refl; rows = refl; known = λ x k. k }
+-- if nothing changes, what process q relies on stays
+pub stays_for_same : (n q : ℕ) (c : Coded) → StaysFor n q c c
+stays_for_same n q c = record { held = λ a la. omega arith; own = refl; held_at_start = λ a. refl; floor = refl; value = refl; count = refl; code = λ k. refl; writing = refl; limit = refl; rows = refl; known = λ x k. k }
 
-pub later_current : (n q : ℕ) (c d : Coded) → Later n q c d → c.code q (c.count q) ≡ d.code q (d.count q)
-later_current n q c d l = l.code (c.count q) ∙ ap (d.code q) l.count
+-- the code of q's current write, if it has one, stays
+pub current_code_stays : (n q : ℕ) (c d : Coded) → StaysFor n q c d → c.code q (c.count q) ≡ d.code q (d.count q)
+current_code_stays n q c d l = l.code (c.count q) ∙ ap (d.code q) l.count
 
 -- from s to t, q's read of part a of its column keeps its fresh value, and further writes that
 -- overlap it are of known codes, no lower than what process a held when q's operation began
@@ -136,25 +139,28 @@ pub record OverlapsGrow (c : Coded) (q a : ℕ) (s t : Seen) : Type 0 where
   pub fresh : s.fresh 1 ≡ t.fresh 1
   pub overlaps : (y : ℕ) → IsTrue (among y (t.overlaps 1)) → IsTrue (among y (s.overlaps 1)) ⊎ ((c.held_at_start q a ≤ y) × IsKnownCode c y)
 
+-- no further writes overlap a read if the part shows the same
 pub overlaps_same : (c : Coded) (q a : ℕ) (s : Seen) → OverlapsGrow c q a s s
 overlaps_same c q a s = record { fresh = refl; overlaps = λ y m. inl m }
 
-column_known_later : (n q : ℕ) (c d : Coded) (o : Op) (j g : ℕ) → q < n → Later n q c d → KnowsColumn n c q o j g → KnowsColumn n d q o j g
-column_known_later n q c d o j g lq l h = record {
+-- what q knows of its column stays known
+knows_column_later : (n q : ℕ) (c d : Coded) (o : Op) (j g : ℕ) → q < n → StaysFor n q c d → KnowsColumn n c q o j g → KnowsColumn n d q o j g
+knows_column_later n q c d o j g lq l h = record {
   own = sym (l.held_at_start q) ∙ h.own ∙ l.own;
   witness =
       (let w = h.witness in let e : c.held_at_start q w.0 ≡ d.held_at_start q w.0 = l.held_at_start w.0 in let r : c.floor q ≤ c.held_at_start q w.0 = w.1.1 in
       (w.0, (w.1.0, omega (arith, e, r, l.floor))));
   at_least = λ a la. (let e : c.held_at_start q a ≡ d.held_at_start q a = l.held_at_start a in let r : c.held_at_start q a ≤ g = h.at_least a la in omega (arith, e, r));
-  heard = elim (h.heard) [ inl e ↦ inl e | inr k ↦ inr (l.known g k) ];
-  free = opens o h.free;
+  greatest_known = elim (h.greatest_known) [ inl e ↦ inl e | inr k ↦ inr (l.known g k) ];
+  free = still_free o h.free;
 }
   where
-    opens : (o : Op) → HasNoCode c q o → HasNoCode d q o
-    opens (Write v) h = (sym (later_current n q c d l) ∙ h.0, sym l.value ∙ h.1, sym l.writing ∙ h.2)
-    opens Read h = sym l.writing ∙ h
+    still_free : (o : Op) → HasNoCode c q o → HasNoCode d q o
+    still_free (Write v) h = (sym (current_code_stays n q c d l) ∙ h.0, sym l.value ∙ h.1, sym l.writing ∙ h.2)
+    still_free Read h = sym l.writing ∙ h
 
-reads_part_later : (n q : ℕ) (c d : Coded) (j : ℕ) (s t : Seen) → Later n q c d → OverlapsGrow d q j s t → ReadsPart n c q j s → ReadsPart n d q j t
+-- what q's read of a part may give stays so
+reads_part_later : (n q : ℕ) (c d : Coded) (j : ℕ) (s t : Seen) → StaysFor n q c d → OverlapsGrow d q j s t → ReadsPart n c q j s → ReadsPart n d q j t
 reads_part_later n q c d j s t l m h = record {
   part = h.part;
   fresh = (let e : c.held_at_start q j ≡ d.held_at_start q j = l.held_at_start j in let r : c.held_at_start q j ≤ s.fresh 1 = h.fresh.0 in
@@ -165,25 +171,26 @@ reads_part_later n q c d j s t l m h = record {
   ];
 }
 
-writes_row_later : (n q : ℕ) (c d : Coded) (o : Op) (x : ℕ) → Later n q c d → WritesRow c q o x → WritesRow d q o x
+-- what q may write to its row, it still may
+writes_row_later : (n q : ℕ) (c d : Coded) (o : Op) (x : ℕ) → StaysFor n q c d → WritesRow c q o x → WritesRow d q o x
 writes_row_later n q c d o x l h = record {
   held = (let r : c.held q ≤ x = h.held in omega (arith, r, l.own));
   floor = (let r : c.floor q ≤ x = h.floor in omega (arith, r, l.floor));
   known = l.known x h.known;
-  took = tooks o h.took;
+  took = takes o h.took;
   room = sym (λ i. l.limit i (l.rows i)) ∙ h.room;
 }
   where
-    tooks : (o : Op) → HasTakenCode c q o x → HasTakenCode d q o x
-    tooks (Write v) h = (sym (later_current n q c d l) ∙ h.0, sym l.writing ∙ h.1)
-    tooks Read h = sym l.writing ∙ h
+    takes : (o : Op) → HasTakenCode c q o x → HasTakenCode d q o x
+    takes (Write v) h = (sym (current_code_stays n q c d l) ∙ h.0, sym l.writing ∙ h.1)
+    takes Read h = sym l.writing ∙ h
 
 -- what holds of process q still holds after a step of another process
-pub holds_in_phase_later : (n q : ℕ) (c d : Coded) (parts to : ℕ → Seen) → q < n → Later n q c d → ((a : ℕ) → a < n → OverlapsGrow d q a (parts (a * n + q)) (to (a * n + q)))
+pub holds_in_phase_later : (n q : ℕ) (c d : Coded) (parts to : ℕ → Seen) → q < n → StaysFor n q c d → ((a : ℕ) → a < n → OverlapsGrow d q a (parts (a * n + q)) (to (a * n + q)))
     → (x : Phase) → HoldsInPhase n c q parts x → HoldsInPhase n d q to x
 holds_in_phase_later n q c d parts to lq l m Rests h = tt
-holds_in_phase_later n q c d parts to lq l m (WillRead o j g) h = column_known_later n q c d o j g lq l h
+holds_in_phase_later n q c d parts to lq l m (WillRead o j g) h = knows_column_later n q c d o j g lq l h
 holds_in_phase_later n q c d parts to lq l m (IsReading o j g) h =
-    (column_known_later n q c d o j g lq l h.0, reads_part_later n q c d j (parts (j * n + q)) (to (j * n + q)) l (m j h.1.part) h.1)
+    (knows_column_later n q c d o j g lq l h.0, reads_part_later n q c d j (parts (j * n + q)) (to (j * n + q)) l (m j h.1.part) h.1)
 holds_in_phase_later n q c d parts to lq l m (WillWrite o j x) h = writes_row_later n q c d o x l h
 holds_in_phase_later n q c d parts to lq l m (IsWriting o j x) h = writes_row_later n q c d o x l h

@@ -10,11 +10,10 @@ use Rattle.frames.specs.declared.types.StepEvents.{StepEvents}
 use Rattle.frames.specs.Recorded.{at_index, indexed}
 use Rattle.frames.proofs.Seen.{Allowed}
 use Rattle.frames.proofs.Pointwise.{put, put_same, put_other, put_all}
-use Rattle.matrix.proofs.Codes.{Coded, IsKnownCode}
-use Rattle.matrix.proofs.Moves.{returned, invoked, after_refusal, took_code, own_code_taken, own_other_codes, others_codes}
-use Rattle.matrix.proofs.HistorySteps.{EventChanges, TakesNewCode, MayTakeCode, StepChanges, uncoded}
+use Rattle.matrix.proofs.CodedHistory.{Coded, IsKnownCode, returned, invoked, after_refusal, took_code, own_code_taken, own_other_codes, others_codes, EventChanges, TakesNewCode, MayTakeCode, StepChanges, uncoded, some_same}
 use Rattle.frames.specs.correctness.Ranks.{Ranking, at_first, HasRank, after_rank, Ranked}
 
+-- the code of each process's writes, by number, if they have one
 abbrev pub CodeTable : Type 0
 CodeTable = ℕ → ℕ → Option ℕ
 
@@ -45,6 +44,7 @@ pub record RanksAgree (values : ℕ) (c : Coded) (final_codes : CodeTable) (r : 
   pub issued : (x : ℕ) → IsIssued c final_codes x → r.values x ≡ Some (x % values)
   pub unissued : (x : ℕ) → (IsIssued c final_codes x → ⊥) → r.values x ≡ None
 
+-- known codes are issued
 known_is_issued : (values : ℕ) (c : Coded) (final_codes : CodeTable) (x : ℕ) → AreConsistent c → AreFinalCodes values c final_codes → IsKnownCode c x → IsIssued c final_codes x
 known_is_issued values c final_codes x s h k = elim k [
   | inl e ↦ inl e
@@ -62,9 +62,6 @@ known_is_issued values c final_codes x s h k = elim k [
     ),
   )
 ]
-
-some_same : (x y : ℕ) → (let s : Option ℕ = Some x in s) ≡ Some y → x ≡ y
-some_same x y e = cc
 
 -- when a write takes a code, c becomes d: d is consistent too, final codes of d are final codes of
 -- c, and a ranking that agrees with c agrees with d
@@ -128,6 +125,7 @@ module _ (values : ℕ) (c d : Coded) (t : TakesNewCode values c d) where
   took_agrees : (final_codes : CodeTable) (r : Ranking) → RanksAgree values c final_codes r → RanksAgree values d final_codes r
   took_agrees final_codes r a = subst (λ z. RanksAgree values z final_codes r) (sym t.after) (record { top = a.top; floor = a.floor; mine = a.mine; rest = a.rest; issued = a.issued; unissued = a.unissued })
 
+-- the same if a write takes a code, or nothing changes
 takes_consistent : (values : ℕ) (c d : Coded) → MayTakeCode values c d → AreConsistent c → AreConsistent d
 takes_consistent values c d (inl e) s = subst AreConsistent (sym e) s
 takes_consistent values c d (inr t) s = took_consistent values c d t s
@@ -149,6 +147,7 @@ record EndsWrite (p : ℕ) (c z : Coded) : Type 0 where
   floor : (q : ℕ) → (q ≡ p → ⊥) → z.floor q ≡ c.floor q
   value : (q : ℕ) → (q ≡ p → ⊥) → z.value q ≡ c.value q
 
+-- the codes that writes have in the end, seen after p's write ends, are so before it
 final_before_write_ends : (values p : ℕ) (c z : Coded) (final_codes : CodeTable) → EndsWrite p c z → AreFinalCodes values z final_codes → AreFinalCodes values c final_codes
 final_before_write_ends values p c z final_codes k h = record {
   kept = λ q i x e. h.kept q i x (k.code q i ∙ e);
@@ -166,6 +165,7 @@ final_before_write_ends values p c z final_codes k h = record {
     now : (q : ℕ) → z.writing q ≡ false → final_codes q (c.count q) ≡ c.code q (c.count q)
     now q e = ap (final_codes q) (sym (k.count q)) ∙ h.ended q e ∙ k.code q (z.count q) ∙ ap (c.code q) (k.count q)
 
+-- p's write ends by a return, by a refusal, and if p invokes a read
 returned_ends_write : (p n : ℕ) (c : Coded) → EndsWrite p c (returned p n c)
 returned_ends_write p n c = record { code = λ q k. refl; count = λ q. refl; over = put_same p false c.writing; writing = λ q ne. put_other p q false c.writing ne; floor = λ q ne. refl; value = λ q ne. refl }
 
@@ -197,18 +197,21 @@ no_rank_put p m w h q e = elim (cases_eq q p) as (λ _. put p None m q ≡ None)
   | inr ne ↦ put_other p q None m ne ∙ h q (sym (put_other p q false w ne) ∙ e)
 ]
 
+-- the same once p is in a write, with its rank or none
 no_rank_more : (p : ℕ) (o : Option ℕ) (m : ℕ → Option ℕ) (w : ℕ → Bool) → ((q : ℕ) → w q ≡ false → m q ≡ None) → (q : ℕ) → put p true w q ≡ false → put p o m q ≡ None
 no_rank_more p o m w h q e = elim (cases_eq q p) as (λ _. put p o m q ≡ None) [
   | inl i ↦ absurd (let f : true ≡ false = sym (put_same p true w) ∙ ap (put p true w) (sym i) ∙ e in cc)
   | inr ne ↦ put_other p q o m ne ∙ h q (sym (put_other p q true w ne) ∙ e)
 ]
 
+-- the same once p's write is over, if it had no rank
 no_rank_same : (p : ℕ) (m : ℕ → Option ℕ) (w : ℕ → Bool) → m p ≡ None → ((q : ℕ) → w q ≡ false → m q ≡ None) → (q : ℕ) → put p false w q ≡ false → m q ≡ None
 no_rank_same p m w none h q e = elim (cases_eq q p) [
   | inl i ↦ ap m i ∙ none
   | inr ne ↦ h q (sym (put_other p q false w ne) ∙ e)
 ]
 
+-- two functions that are the same stay so if p's number changes in both
 same_put : (p : ℕ) (x y : ℕ) (f g : ℕ → ℕ) → x ≡ y → ((q : ℕ) → f q ≡ g q) → (q : ℕ) → put p x f q ≡ put p y g q
 same_put p x y f g e h q = elim (q == p) as (λ b. (if b then x else f q) ≡ (if b then y else g q)) [ true ↦ e | false ↦ h q ]
 
@@ -219,9 +222,11 @@ record EventLeads (values : ℕ) (e : Event) (c z : Coded) : Type 0 where
   final : (final_codes : CodeTable) → AreFinalCodes values z final_codes → AreFinalCodes values c final_codes
   ranks : (final_codes : CodeTable) → AreFinalCodes values z final_codes → (r : Ranking) → RanksAgree values c final_codes r → (n : Option ℕ) × (HasRank r e n × RanksAgree values z final_codes (after_rank r e n))
 
+-- what is known stays consistent when an operation returns
 returned_consistent : (p n : ℕ) (c : Coded) → AreConsistent c → AreConsistent (returned p n c)
 returned_consistent p n c s = record { later = s.later; low = (let l = s.low in omega (arith, l)); apart = s.apart }
 
+-- a ranking that agrees still does once a read returns with rank n
 got_agrees : (values p n : ℕ) (c : Coded) (final_codes : CodeTable) (r : Ranking) → c.writing p ≡ false → RanksAgree values c final_codes r → RanksAgree values (returned p n c) final_codes (record r { top = max r.top n })
 got_agrees values p n c final_codes r quiet a = record {
   top = ap (λ t. max t n) a.top;
@@ -232,6 +237,7 @@ got_agrees values p n c final_codes r quiet a = record {
   unissued = a.unissued;
 }
 
+-- a ranking that agrees still does once a write returns with rank n
 wrote_agrees : (values p n : ℕ) (c : Coded) (final_codes : CodeTable) (r : Ranking) → RanksAgree values c final_codes r → RanksAgree values (returned p n c) final_codes (record r { top = max r.top n; mine = put p None r.mine })
 wrote_agrees values p n c final_codes r a = record {
   top = ap (λ t. max t n) a.top;
@@ -242,6 +248,7 @@ wrote_agrees values p n c final_codes r a = record {
   unissued = a.unissued;
 }
 
+-- each kind of event leads from what is known before it to what is known after it
 got_leads : (values p x n : ℕ) (c : Coded) → AreConsistent c → IsKnownCode c n → x ≡ n % values → c.floor p ≤ n → c.writing p ≡ false → EventLeads values (Got p x) c (returned p n c)
 got_leads values p x n c s k e le quiet = record {
   consistent = returned_consistent p n c s;
@@ -282,6 +289,7 @@ read_leads values p c s = record {
 
 -- p invokes a write of v
 module _ (values p v : ℕ) (c : Coded) (s : AreConsistent c) where
+  -- what is known then
   abbrev z : Coded
   z = invoked p (Write v) c
 
@@ -389,6 +397,7 @@ module _ (values p v : ℕ) (c : Coded) (s : AreConsistent c) where
   write_leads : EventLeads values (Invoke p (Write v)) c z
   write_leads = record { consistent = write_consistent; final = write_final; ranks = λ final_codes h r a. write_ranks final_codes h r a (final_codes p (c.count p + 1)) refl }
 
+-- a refused operation had no rank, and a ranking that agrees still does after it
 refused_ranks : (values p : ℕ) (c : Coded) (final_codes : CodeTable) (r : Ranking) → (c.writing p ≡ false) ⊎ ((c.code p (c.count p) ≡ None) × (c.writing p ≡ true)) → AreFinalCodes values (after_refusal p c) final_codes → RanksAgree values c final_codes r → (r.mine p ≡ None) × RanksAgree values (after_refusal p c) final_codes r
 refused_ranks values p c final_codes r q h a = (
   none,
@@ -398,6 +407,7 @@ refused_ranks values p c final_codes r q h a = (
     none : r.mine p ≡ None
     none = elim q [ inl e ↦ a.rest p e | inr w ↦ a.mine p w.1 ∙ h.ended p (put_same p false c.writing) ∙ w.0 ]
 
+-- each event of a step leads from what is known before it to what is known after it
 event_leads : (values : ℕ) (e : Event) (c z : Coded) → AreConsistent c → EventChanges values (Some e) c z → EventLeads values e c z
 event_leads values (Invoke p (Write v)) c z s h = subst (EventLeads values (Invoke p (Write v)) c) (sym h) (write_leads values p v c s)
 event_leads values (Invoke p Read) c z s h = subst (EventLeads values (Invoke p Read) c) (sym h) (read_leads values p c s)
@@ -419,6 +429,7 @@ record StepLeads (values i : ℕ) (e : Option Event) (c z : Coded) : Type 0 wher
   final : (final_codes : CodeTable) → AreFinalCodes values z final_codes → AreFinalCodes values c final_codes
   join : (final_codes : CodeTable) → AreFinalCodes values z final_codes → (rest : List (ℕ × Event)) → ((r : Ranking) → RanksAgree values z final_codes r → Ranked r rest) → (r : Ranking) → RanksAgree values c final_codes r → Ranked r (at_index i e ++ rest)
 
+-- so does each step's event, if there is one
 step_leads : (values i : ℕ) (e : Option Event) (c z : Coded) → AreConsistent c → EventChanges values e c z → StepLeads values i e c z
 step_leads values i None c z s h = subst (StepLeads values i None c) (sym h) (record { consistent = s; final = λ final_codes g. g; join = λ final_codes g rest more r a. more r a })
 step_leads values i (Some e) c z s h =
@@ -431,6 +442,7 @@ record CanBeRanked (values i : ℕ) (c : Coded) (es : List StepEvents) : Type 0 
   final : AreFinalCodes values c final_codes
   ranked : (r : Ranking) → RanksAgree values c final_codes r → Ranked r (indexed i es)
 
+-- if steps change codes as `StepChanges` says, their operations can be given ranks
 ranks_from_codes : (values i : ℕ) (c : Coded) (es : List StepEvents) → AreConsistent c → Allowed (StepChanges values) c es → CanBeRanked values i c es
 ranks_from_codes values i c [] s h = record {
   final_codes = c.code;

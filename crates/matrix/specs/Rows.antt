@@ -1,5 +1,5 @@
--- That no process of a matrix is refused while it writes its row: a row is written as a whole, or no
--- part of it is.
+-- That no process of a matrix is refused while it writes its row: a row is written as a whole, or
+-- no part of it is.
 use Rattle.std.specs.Prelude.{◌≡◌, ℕ, ◌<◌, ◌⊎◌, Bool, true, false, List, Option, Some, None}
 use Rattle.frames.specs.declared.types.Event.TheVariants.{Refused}
 use Rattle.frames.specs.declared.types.Layer.{Layer}

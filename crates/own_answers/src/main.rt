@@ -15,6 +15,7 @@ use std::process::ExitCode;
 /// The most states that are searched.
 const MOST_STATES: u32 = 1 << 16;
 
+/// Ends with status 0; 1 if the output fails; 3 if `answers` returns `None`.
 fn main(rt: HostRuntime) -> ExitCode {
     let Some(text) = answers(rt.alloc()) else {
         return ExitCode::from(3);

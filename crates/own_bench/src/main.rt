@@ -9,6 +9,7 @@ use schedule_trie::limits::Limits;
 use std::process::ExitCode;
 use towerbench::serve;
 
+/// Ends with status 0; 1 if a stream fails; 3 if the register is refused or memory runs out.
 fn main(rt: HostRuntime) -> ExitCode {
     let Ok(register) = TwoBits::new(Safe) else {
         return ExitCode::from(3);

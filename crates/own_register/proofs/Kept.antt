@@ -22,8 +22,8 @@ use Rattle.frames.proofs.Pointwise.{put, put_same, put_other, put_zero, put_all}
 use Rattle.layers.specs.Nested.{Ends, Table, layered}
 use Rattle.layers.specs.Sound.{IsNotSpent, IsSoundTable, FitsBelow}
 use Rattle.layers.specs.laws.Over.{over}
-use Rattle.layers.proofs.Law.{TaskInProgress as Doing, View, Watch, Runs, IsKept, IsUser}
-use Rattle.layers.proofs.LayerLaw.{IsGoodStep, good_begun as begun, good_gone as gone, good_passes, layer_promises}
+use Rattle.layers.proofs.Law.{TaskInProgress, View, Watch, Runs, IsKept, IsUser}
+use Rattle.layers.proofs.LayerLaw.{IsGoodStep, good_begun, good_gone, good_passes, layer_promises}
 use Rattle.own_register.specs.declared.task.TwoBitsTask.{TwoBitsTask}
 use Rattle.own_register.specs.declared.task.TwoBitsTask.TheVariants.{WriteHigh, WriteLow, ReadHigh, ReadLow}
 use Rattle.own_register.specs.Program.{high_of, low_of, with_bit, write_low, read_low, two_bits_program, two_bits_rest, two_bits_table, TwoBitsMayBeAt}
@@ -39,9 +39,11 @@ pub record Reader : Type 0 where
   pub fresh : ℕ
   pub overlaps : List ℕ
 
+-- of what a history shows, what it shows of the register's writes
 abbrev pub writes : Seen → Writes
 writes s = record { last = s.last; writing = s.writing }
 
+-- of what a history shows, what it shows of process r's last read
 abbrev pub reader : ℕ → Seen → Reader
 reader r s = record { fresh = s.fresh r; overlaps = s.overlaps r }
 
@@ -75,7 +77,7 @@ WriterIn (ReadHigh who) own high low = ⊥
 WriterIn (ReadLow who x) own high low = ⊥
 
 -- what the writer's task says of the register's and of the two bits' writes
-abbrev pub WriterSays : Option (Doing TwoBitsTask) → Writes → Writes → Writes → Type 0
+abbrev pub WriterSays : Option (TaskInProgress TwoBitsTask) → Writes → Writes → Writes → Type 0
 WriterSays None own high low = Still own high low
 WriterSays (Some n) own high low = WriterIn n.task own high low
 
@@ -95,16 +97,16 @@ ReaderIn (ReadHigh who) own mine high low = mine.overlaps ≡ [] → Alone own m
 ReaderIn (ReadLow who x) own mine high low = mine.overlaps ≡ [] → (x ≡ high_of mine.fresh) × Alone own mine low low_of
 
 -- what a reader's task says of its read, if no write overlaps it
-abbrev pub ReaderSays : Option (Doing TwoBitsTask) → Writes → Reader → Reader → Reader → Type 0
+abbrev pub ReaderSays : Option (TaskInProgress TwoBitsTask) → Writes → Reader → Reader → Reader → Type 0
 ReaderSays None own mine high low = Unit {0}
 ReaderSays (Some n) own mine high low = ReaderIn n.task own mine high low
 
 -- in view j: what a task of reader r says of r's read, if no write overlaps the read
-abbrev pub ReaderAt : Seen → View TwoBitsTask → Option (Doing TwoBitsTask) → ℕ → Type 0
+abbrev pub ReaderAt : Seen → View TwoBitsTask → Option (TaskInProgress TwoBitsTask) → ℕ → Type 0
 ReaderAt u j task r = ReaderSays task (writes u) (reader r u) (reader r (j.parts 0)) (reader r (j.parts 1))
 
 -- in view j: what the writer's task says of the writes of the register and of both bits
-abbrev pub WriterAt : Seen → View TwoBitsTask → Option (Doing TwoBitsTask) → Type 0
+abbrev pub WriterAt : Seen → View TwoBitsTask → Option (TaskInProgress TwoBitsTask) → Type 0
 WriterAt u j task = WriterSays task (writes u) (writes (j.parts 0)) (writes (j.parts 1))
 
 -- the invariant: what the tasks of the writer and of all readers say
@@ -112,10 +114,12 @@ pub record TwoBitsInv (u : Seen) (j : View TwoBitsTask) : Type 0 where
   pub writer : WriterAt u j (j.tasks 0)
   pub readers : (r : ℕ) → 1 ≤ r → ReaderAt u j (j.tasks r) r
 
+-- reads of bits that overlap no write are fresh, and the invariant holds
 abbrev pub two_bits_watch : Watch TwoBitsTask Seen
 two_bits_watch = record { Good = IsFreshAlone; Inv = TwoBitsInv }
 
--- a write ends only in one way, and a read only with a value
+-- what holds after a write that ended holds after each outcome that it can have, and what holds
+-- after a read that gave any value holds after each outcome that it can have
 by_write : (v : ℕ) (Q : Outcome → Type 0) (o : Outcome) → Answers 2 (Write v) o → IsNotSpent o → Q Written → Q o
 by_write v Q Written answers on q = q
 by_write v Q (Value x) answers on q = absurd answers
@@ -127,7 +131,7 @@ by_read Q Written answers on q = absurd answers
 by_read Q (Spent layer) answers on q = absurd on
 
 -- while no write is in progress, both bits are idle, and hold the bits of the value written last
-still : (task : Option (Doing TwoBitsTask)) (own high low : Writes) → WriterSays task own high low → own.writing ≡ None → Still own high low
+still : (task : Option (TaskInProgress TwoBitsTask)) (own high low : Writes) → WriterSays task own high low → own.writing ≡ None → Still own high low
 still None own high low h e = h
 still (Some n) own high low h e = in_task n.task h
   where
@@ -138,7 +142,7 @@ still (Some n) own high low h e = in_task n.task h
     in_task (ReadLow who x) h = absurd h
 
 -- if a write overlaps a read, what the reader's task says holds, whatever the bits show
-overlapped : (task : Option (Doing TwoBitsTask)) (own : Writes) (mine high low : Reader) → (mine.overlaps ≡ [] → ⊥) → ReaderSays task own mine high low
+overlapped : (task : Option (TaskInProgress TwoBitsTask)) (own : Writes) (mine high low : Reader) → (mine.overlaps ≡ [] → ⊥) → ReaderSays task own mine high low
 overlapped None own mine high low busy = tt
 overlapped (Some n) own mine high low busy = in_task n.task
   where
@@ -150,7 +154,7 @@ overlapped (Some n) own mine high low busy = in_task n.task
 
 -- while a write is in progress, it overlaps every pending read, so what a reader's task says keeps
 -- holding, whatever the bits then show
-busy : (v : ℕ) (task : Option (Doing TwoBitsTask)) (own to : Writes) (mine high low high' low' : Reader) → own.writing ≡ Some v → ReaderSays task own mine high low → ReaderSays task to mine high' low'
+busy : (v : ℕ) (task : Option (TaskInProgress TwoBitsTask)) (own to : Writes) (mine high low high' low' : Reader) → own.writing ≡ Some v → ReaderSays task own mine high low → ReaderSays task to mine high' low'
 busy v None own to mine high low high' low' w h = tt
 busy v (Some n) own to mine high low high' low' w h = in_task n.task h
   where
@@ -176,26 +180,27 @@ value_of_bits v = by_test (nat_le 2 v) refl
     by_test false e = omega arith
 
 module _ (processes : ℕ) where
-  abbrev t : Table TwoBitsTask
-  t = two_bits_table processes
+  abbrev table : Table TwoBitsTask
+  table = two_bits_table processes
 
   -- the invariant of the view with the writer's task changed
-  set_writer : (u : Seen) (j : View TwoBitsTask) (p : ℕ) (n : Option (Doing TwoBitsTask)) → p ≡ 0 → WriterAt u j n → ((r : ℕ) → 1 ≤ r → ReaderAt u j (j.tasks r) r) → TwoBitsInv u (record j { tasks = put p n j.tasks })
+  set_writer : (u : Seen) (j : View TwoBitsTask) (p : ℕ) (n : Option (TaskInProgress TwoBitsTask)) → p ≡ 0 → WriterAt u j n → ((r : ℕ) → 1 ≤ r → ReaderAt u j (j.tasks r) r) → TwoBitsInv u (record j { tasks = put p n j.tasks })
   set_writer u j p n zp wr rs = record {
     writer = subst (WriterAt u j) (sym (put_zero p n j.tasks zp)) wr;
     readers = put_all (λ r y. 1 ≤ r → ReaderAt u j y r) p n j.tasks (λ l. absurd (omega (arith, l, zp))) (λ r ne l. rs r l);
   }
 
   -- the invariant of the view with the task of reader p changed
-  set_reader : (u : Seen) (j : View TwoBitsTask) (p : ℕ) (n : Option (Doing TwoBitsTask)) → 1 ≤ p → WriterAt u j (j.tasks 0) → ((r : ℕ) → 1 ≤ r → (r ≡ p → ⊥) → ReaderAt u j (j.tasks r) r) → ReaderAt u j n p
+  set_reader : (u : Seen) (j : View TwoBitsTask) (p : ℕ) (n : Option (TaskInProgress TwoBitsTask)) → 1 ≤ p → WriterAt u j (j.tasks 0) → ((r : ℕ) → 1 ≤ r → (r ≡ p → ⊥) → ReaderAt u j (j.tasks r) r) → ReaderAt u j n p
       → TwoBitsInv u (record j { tasks = put p n j.tasks })
   set_reader u j p n lo wr rs me = record {
     writer = subst (WriterAt u j) (sym (put_other p 0 n j.tasks (λ e. omega (arith, e, lo)))) wr;
     readers = put_all (λ r y. 1 ≤ r → ReaderAt u j y r) p n j.tasks (λ l. me) (λ r ne l. rs r l ne);
   }
 
+  -- a write that has written both bits ends, and keeps the invariant
   write_ends : (v p : ℕ) (op : Op) (Out : Option Event → Seen → Type 0) (u : Seen) (j : View TwoBitsTask) → p ≡ 0 → InLow v None (writes u) (writes (j.parts 0)) (writes (j.parts 1)) → (j.parts 1).last ≡ low_of v
-      → ((r : ℕ) → 1 ≤ r → ReaderAt u j (j.tasks r) r) → Out (Some (Wrote p)) (sees (Some (Wrote p)) u) → Runs t two_bits_watch p op Out (Ends Written) j
+      → ((r : ℕ) → 1 ≤ r → ReaderAt u j (j.tasks r) r) → Out (Some (Wrote p)) (sees (Some (Wrote p)) u) → Runs table two_bits_watch p op Out (Ends Written) j
   write_ends v p op Out u j zp h low rs oe =
       let z : Seen = sees (Some (Wrote p)) u in
       let last : v ≡ z.last = sym (ap (λ o. now_last o u.last) h.writing) in
@@ -204,7 +209,7 @@ module _ (processes : ℕ) where
 
   -- the rest of a write that has written the high bit keeps the invariant
   writes_low : (v p : ℕ) (op : Op) (Out : Option Event → Seen → Type 0) (u : Seen) (j : View TwoBitsTask) → p ≡ 0 → InLow v None (writes u) (writes (j.parts 0)) (writes (j.parts 1))
-      → ((r : ℕ) → 1 ≤ r → ReaderAt u j (j.tasks r) r) → Out None u → Out (Some (Wrote p)) (sees (Some (Wrote p)) u) → Runs t two_bits_watch p op Out (write_low v) j
+      → ((r : ℕ) → 1 ≤ r → ReaderAt u j (j.tasks r) r) → Out None u → Out (Some (Wrote p)) (sees (Some (Wrote p)) u) → Runs table two_bits_watch p op Out (write_low v) j
   writes_low v p op Out u j zp h rs on oe =
       let s : Seen = sees (Some (Invoke 0 (Write (low_of v)))) (j.parts 1) in
       let mid : View TwoBitsTask = record j { parts = put 1 s j.parts } in
@@ -214,12 +219,13 @@ module _ (processes : ℕ) where
       let now : (r : ℕ) → 1 ≤ r → ReaderAt u mid (j.tasks r) r =
       λ r l. busy v (j.tasks r) (writes u) (writes u) (reader r u) (reader r (j.parts 0)) (reader r (j.parts 1)) (reader r (j.parts 0)) (reader r s) h.writing (rs r l) in (
         (u, (on, set_writer u mid p (Some (record { op = op; task = WriteLow v })) zp here now)),
-        λ o answers pass good. by_write (low_of v) (λ o. Runs t two_bits_watch p op Out (Ends Written) (record j { parts = put 1 (sees (Some (end_event 0 o)) s) j.parts })) o answers pass
+        λ o answers pass good. by_write (low_of v) (λ o. Runs table two_bits_watch p op Out (Ends Written) (record j { parts = put 1 (sees (Some (end_event 0 o)) s) j.parts })) o answers pass
             (write_ends v p op Out u end zp done refl now oe),
       )
 
+  -- a write from its invocation on keeps the invariant
   begins_write : (u : Seen) (j : View TwoBitsTask) (p v : ℕ) → TwoBitsInv u j → j.tasks p ≡ None → p ≡ 0
-      → Runs t two_bits_watch p (Write v) (λ e. IsGoodStep IsFreshAlone u (in_order (Some (Invoke p (Write v))) e)) (two_bits_program p (Write v)) j
+      → Runs table two_bits_watch p (Write v) (λ e. IsGoodStep IsFreshAlone u (in_order (Some (Invoke p (Write v))) e)) (two_bits_program p (Write v)) j
   begins_write u j p v h free zp =
       let Out : Option Event → Seen → Type 0 = λ e. IsGoodStep IsFreshAlone u (in_order (Some (Invoke p (Write v))) e) in
       let idle : WriterAt u j None = subst (WriterAt u j) (sym (ap j.tasks zp) ∙ free) h.writer in
@@ -230,10 +236,10 @@ module _ (processes : ℕ) where
       let here : WriterAt z mid (Some (record { op = Write v; task = WriteHigh v })) = record { writing = refl; here = refl; low_idle = idle.low_idle } in
       let done : InLow v None (writes z) (writes (end.parts 0)) (writes (end.parts 1)) = record { writing = refl; high_last = refl; high_idle = refl; here = idle.low_idle } in
       let now : (r : ℕ) → 1 ≤ r → ReaderAt z mid (j.tasks r) r = λ r l. overlapped (j.tasks r) (writes z) (reader r z) (reader r s) (reader r (j.parts 1)) (λ o. cc) in
-      let on : Out None z = begun IsFreshAlone p (Write v) None u refl tt in
-      let oe : Out (Some (Wrote p)) (sees (Some (Wrote p)) z) = begun IsFreshAlone p (Write v) (Some (Wrote p)) u refl tt in (
+      let on : Out None z = good_begun IsFreshAlone p (Write v) None u refl tt in
+      let oe : Out (Some (Wrote p)) (sees (Some (Wrote p)) z) = good_begun IsFreshAlone p (Write v) (Some (Wrote p)) u refl tt in (
         (z, (on, set_writer z mid p (Some (record { op = Write v; task = WriteHigh v })) zp here now)),
-        λ o answers pass good. by_write (high_of v) (λ o. Runs t two_bits_watch p (Write v) Out (write_low v) (record j { parts = put 0 (sees (Some (end_event 0 o)) s) j.parts })) o answers pass
+        λ o answers pass good. by_write (high_of v) (λ o. Runs table two_bits_watch p (Write v) Out (write_low v) (record j { parts = put 0 (sees (Some (end_event 0 o)) s) j.parts })) o answers pass
             (writes_low v p (Write v) Out z end zp done now on oe),
       )
 
@@ -245,7 +251,7 @@ module _ (processes : ℕ) where
   read_ends : (p high low : ℕ) (op : Op) (Out : Option Event → Seen → Type 0) (u : Seen) (j : View TwoBitsTask) → 1 ≤ p → WriterAt u j (j.tasks 0) → ((r : ℕ) → 1 ≤ r → (r ≡ p → ⊥) → ReaderAt u j (j.tasks r) r)
       → ReaderAt u j (Some (record { op = op; task = ReadLow p high })) p → IsFreshAlone (record { reader = p; value = low; fresh = (j.parts 1).fresh p; overlaps = (j.parts 1).overlaps p })
       → ((x : ℕ) → IsFreshAlone (record { reader = p; value = x; fresh = u.fresh p; overlaps = u.overlaps p }) → Out (Some (Got p x)) u)
-      → Runs t two_bits_watch p op Out (Ends (Value (2 * high + low))) j
+      → Runs table two_bits_watch p op Out (Ends (Value (2 * high + low))) j
   read_ends p high low op Out u j lo wr rs me good oe =
       let x : ℕ = 2 * high + low in
       let right : u.overlaps p ≡ [] → x ≡ u.fresh p = λ o.
@@ -256,9 +262,9 @@ module _ (processes : ℕ) where
   reads_low : (p high : ℕ) (op : Op) (Out : Option Event → Seen → Type 0) (u : Seen) (j : View TwoBitsTask) → 1 ≤ p → WriterAt u j (j.tasks 0) → ((r : ℕ) → 1 ≤ r → (r ≡ p → ⊥) → ReaderAt u j (j.tasks r) r)
       → ReaderAt u j (Some (record { op = op; task = ReadHigh p })) p → IsFreshAlone (record { reader = p; value = high; fresh = (j.parts 0).fresh p; overlaps = (j.parts 0).overlaps p })
       → Out None u → ((x : ℕ) → IsFreshAlone (record { reader = p; value = x; fresh = u.fresh p; overlaps = u.overlaps p }) → Out (Some (Got p x)) u)
-      → Runs t two_bits_watch p op Out (read_low p high) j
+      → Runs table two_bits_watch p op Out (read_low p high) j
   reads_low p high op Out u j lo wr rs me good on oe =
-      let n : Doing TwoBitsTask = record { op = op; task = ReadLow p high } in
+      let n : TaskInProgress TwoBitsTask = record { op = op; task = ReadLow p high } in
       let q : Seen = j.parts 1 in
       let s : Seen = sees (Some (Invoke p Read)) q in
       let mid : View TwoBitsTask = record j { parts = put 1 s j.parts } in
@@ -276,15 +282,16 @@ module _ (processes : ℕ) where
         },
       )) in (
         (u, (on, set_reader u mid p (Some n) lo wr others mine)),
-        λ o answers pass good. by_read (λ o. AllByRecursion IsFreshAlone (got (Some (end_event p o)) s) → Runs t two_bits_watch p op Out (with_bit (λ low. Ends (Value (2 * high + low))) o) (record j { parts = put 1 (sees (Some (end_event p o)) s) j.parts }))
+        λ o answers pass good. by_read (λ o. AllByRecursion IsFreshAlone (got (Some (end_event p o)) s) → Runs table two_bits_watch p op Out (with_bit (λ low. Ends (Value (2 * high + low))) o) (record j { parts = put 1 (sees (Some (end_event p o)) s) j.parts }))
             o answers pass (λ low good. read_ends p high low op Out u mid lo wr others mine good.0 oe) good,
       )
 
+  -- a read from its invocation on keeps the invariant
   begins_read : (u : Seen) (j : View TwoBitsTask) (p : ℕ) → TwoBitsInv u j → 1 ≤ p
-      → Runs t two_bits_watch p Read (λ e. IsGoodStep IsFreshAlone u (in_order (Some (Invoke p Read)) e)) (two_bits_program p Read) j
+      → Runs table two_bits_watch p Read (λ e. IsGoodStep IsFreshAlone u (in_order (Some (Invoke p Read)) e)) (two_bits_program p Read) j
   begins_read u j p h lo =
       let Out : Option Event → Seen → Type 0 = λ e. IsGoodStep IsFreshAlone u (in_order (Some (Invoke p Read)) e) in
-      let n : Doing TwoBitsTask = record { op = Read; task = ReadHigh p } in
+      let n : TaskInProgress TwoBitsTask = record { op = Read; task = ReadHigh p } in
       let q : Seen = j.parts 0 in
       let z : Seen = sees (Some (Invoke p Read)) u in
       let s : Seen = sees (Some (Invoke p Read)) q in
@@ -301,26 +308,28 @@ module _ (processes : ℕ) where
         overlaps = put_same p (in_progress q.writing) q.overlaps ∙ ap in_progress st.high_idle;
         fresh = put_same p q.last q.fresh ∙ st.high_last ∙ ap high_of last;
       }) in
-      let on : Out None z = begun IsFreshAlone p Read None u refl tt in (
+      let on : Out None z = good_begun IsFreshAlone p Read None u refl tt in (
         (z, (on, set_reader z mid p (Some n) lo h.writer others mine)),
-        λ o answers pass good. by_read (λ o. AllByRecursion IsFreshAlone (got (Some (end_event p o)) s) → Runs t two_bits_watch p Read Out (with_bit (read_low p) o) (record j { parts = put 0 (sees (Some (end_event p o)) s) j.parts }))
-            o answers pass (λ high good. reads_low p high Read Out z mid lo h.writer others mine good.0 on (λ x g. begun IsFreshAlone p Read (Some (Got p x)) u refl (g, tt))) good,
+        λ o answers pass good. by_read (λ o. AllByRecursion IsFreshAlone (got (Some (end_event p o)) s) → Runs table two_bits_watch p Read Out (with_bit (read_low p) o) (record j { parts = put 0 (sees (Some (end_event p o)) s) j.parts }))
+            o answers pass (λ high good. reads_low p high Read Out z mid lo h.writer others mine good.0 on (λ x g. good_begun IsFreshAlone p Read (Some (Got p x)) u refl (g, tt))) good,
       )
 
+  -- an operation from its invocation on keeps the invariant
   begins : (u : Seen) (j : View TwoBitsTask) (p : ℕ) (op : Op) → TwoBitsInv u j → j.tasks p ≡ None → one_writer 4 processes p op ≡ true
-      → Runs t two_bits_watch p op (λ e. IsGoodStep IsFreshAlone u (in_order (Some (Invoke p op)) e)) (two_bits_program p op) j
+      → Runs table two_bits_watch p op (λ e. IsGoodStep IsFreshAlone u (in_order (Some (Invoke p op)) e)) (two_bits_program p op) j
   begins u j p (Write v) h free s = begins_write u j p v h free (writer.writer_zero 4 processes p v s)
   begins u j p Read h free s = begins_read u j p h (writer.reader_is_not_zero 4 processes p s)
 
   -- the run of p's operation once its task has ended with this outcome
-  abbrev GoesOn : Seen → View TwoBitsTask → ℕ → Op → Option (ℕ × Bool) → TwoBitsTask → Outcome → Type 0
-  GoesOn u j p op chosen task o =
-      Answers 2 (t.asks task).op o → IsNotSpent o → AllByRecursion IsFreshAlone (got (Some (end_event (t.asks task).who o)) (j.parts (t.asks task).part))
-      → Runs t two_bits_watch p op (λ e. IsGoodStep IsFreshAlone u (in_order (chosen_of p chosen) e)) (two_bits_rest task o)
-      (record j { parts = put (t.asks task).part (sees (Some (end_event (t.asks task).who o)) (j.parts (t.asks task).part)) j.parts })
+  abbrev RunsAfterTask : Seen → View TwoBitsTask → ℕ → Op → Option (ℕ × Bool) → TwoBitsTask → Outcome → Type 0
+  RunsAfterTask u j p op chosen task o =
+      Answers 2 (table.asks task).op o → IsNotSpent o → AllByRecursion IsFreshAlone (got (Some (end_event (table.asks task).who o)) (j.parts (table.asks task).part))
+      → Runs table two_bits_watch p op (λ e. IsGoodStep IsFreshAlone u (in_order (chosen_of p chosen) e)) (two_bits_rest task o)
+      (record j { parts = put (table.asks task).part (sees (Some (end_event (table.asks task).who o)) (j.parts (table.asks task).part)) j.parts })
 
+  -- an operation's run from each of its four tasks keeps the invariant
   goes_write_high : (u : Seen) (j : View TwoBitsTask) (p v : ℕ) (op : Op) (chosen : Option (ℕ × Bool)) (o : Outcome) → TwoBitsInv u j → p ≡ 0 → InHigh v (writes u) (writes (j.parts 0)) (writes (j.parts 1))
-      → GoesOn u j p op chosen (WriteHigh v) o
+      → RunsAfterTask u j p op chosen (WriteHigh v) o
   goes_write_high u j p v op chosen o h zp wr = λ answers pass good.
       let Out : Option Event → Seen → Type 0 = λ e. IsGoodStep IsFreshAlone u (in_order (chosen_of p chosen) e) in
       let e : Seen = sees (Some (Wrote 0)) (j.parts 0) in
@@ -330,50 +339,52 @@ module _ (processes : ℕ) where
         high_idle = refl;
         here = wr.low_idle;
       } in
-      by_write (high_of v) (λ o. Runs t two_bits_watch p op Out (write_low v) (record j { parts = put 0 (sees (Some (end_event 0 o)) (j.parts 0)) j.parts })) o answers pass
+      by_write (high_of v) (λ o. Runs table two_bits_watch p op Out (write_low v) (record j { parts = put 0 (sees (Some (end_event 0 o)) (j.parts 0)) j.parts })) o answers pass
       (writes_low v p op Out u (record j { parts = put 0 e j.parts }) zp done h.readers
-      (gone IsFreshAlone p chosen None u refl tt) (gone IsFreshAlone p chosen (Some (Wrote p)) u refl tt))
+      (good_gone IsFreshAlone p chosen None u refl tt) (good_gone IsFreshAlone p chosen (Some (Wrote p)) u refl tt))
 
   goes_write_low : (u : Seen) (j : View TwoBitsTask) (p v : ℕ) (op : Op) (chosen : Option (ℕ × Bool)) (o : Outcome) → TwoBitsInv u j → p ≡ 0 → InLow v (Some (low_of v)) (writes u) (writes (j.parts 0)) (writes (j.parts 1))
-      → GoesOn u j p op chosen (WriteLow v) o
+      → RunsAfterTask u j p op chosen (WriteLow v) o
   goes_write_low u j p v op chosen o h zp wr = λ answers pass good.
       let Out : Option Event → Seen → Type 0 = λ e. IsGoodStep IsFreshAlone u (in_order (chosen_of p chosen) e) in
       let e : Seen = sees (Some (Wrote 0)) (j.parts 1) in
       let done : InLow v None (writes u) (writes (j.parts 0)) (writes e) = record { writing = wr.writing; high_last = wr.high_last; high_idle = wr.high_idle; here = refl } in
-      by_write (low_of v) (λ o. Runs t two_bits_watch p op Out (Ends Written) (record j { parts = put 1 (sees (Some (end_event 0 o)) (j.parts 1)) j.parts })) o answers pass
+      by_write (low_of v) (λ o. Runs table two_bits_watch p op Out (Ends Written) (record j { parts = put 1 (sees (Some (end_event 0 o)) (j.parts 1)) j.parts })) o answers pass
       (write_ends v p op Out u (record j { parts = put 1 e j.parts }) zp done (ap (λ o. now_last o (j.parts 1).last) wr.here) h.readers
-      (gone IsFreshAlone p chosen (Some (Wrote p)) u refl tt))
+      (good_gone IsFreshAlone p chosen (Some (Wrote p)) u refl tt))
 
   goes_read_high : (u : Seen) (j : View TwoBitsTask) (p : ℕ) (chosen : Option (ℕ × Bool)) (o : Outcome) → TwoBitsInv u j → 1 ≤ p → j.tasks p ≡ Some (record { op = Read; task = ReadHigh p })
-      → GoesOn u j p Read chosen (ReadHigh p) o
+      → RunsAfterTask u j p Read chosen (ReadHigh p) o
   goes_read_high u j p chosen o h lo at = λ answers pass good.
       let Out : Option Event → Seen → Type 0 = λ e. IsGoodStep IsFreshAlone u (in_order (chosen_of p chosen) e) in
-      by_read (λ o. AllByRecursion IsFreshAlone (got (Some (end_event p o)) (j.parts 0)) → Runs t two_bits_watch p Read Out (with_bit (read_low p) o) (record j { parts = put 0 (sees (Some (end_event p o)) (j.parts 0)) j.parts }))
+      by_read (λ o. AllByRecursion IsFreshAlone (got (Some (end_event p o)) (j.parts 0)) → Runs table two_bits_watch p Read Out (with_bit (read_low p) o) (record j { parts = put 0 (sees (Some (end_event p o)) (j.parts 0)) j.parts }))
       o answers pass (λ high good. reads_low p high Read Out u (record j { parts = put 0 (j.parts 0) j.parts }) lo h.writer (λ r l ne. h.readers r l) (subst (λ y. ReaderAt u j y p) at (h.readers p lo)) good.0
-      (gone IsFreshAlone p chosen None u refl tt) (λ x g. gone IsFreshAlone p chosen (Some (Got p x)) u refl (g, tt))) good
+      (good_gone IsFreshAlone p chosen None u refl tt) (λ x g. good_gone IsFreshAlone p chosen (Some (Got p x)) u refl (g, tt))) good
 
   goes_read_low : (u : Seen) (j : View TwoBitsTask) (p high : ℕ) (chosen : Option (ℕ × Bool)) (o : Outcome) → TwoBitsInv u j → 1 ≤ p → j.tasks p ≡ Some (record { op = Read; task = ReadLow p high })
-      → GoesOn u j p Read chosen (ReadLow p high) o
+      → RunsAfterTask u j p Read chosen (ReadLow p high) o
   goes_read_low u j p high chosen o h lo at = λ answers pass good.
       let Out : Option Event → Seen → Type 0 = λ e. IsGoodStep IsFreshAlone u (in_order (chosen_of p chosen) e) in
-      by_read (λ o. AllByRecursion IsFreshAlone (got (Some (end_event p o)) (j.parts 1)) → Runs t two_bits_watch p Read Out (with_bit (λ low. Ends (Value (2 * high + low))) o) (record j { parts = put 1 (sees (Some (end_event p o)) (j.parts 1)) j.parts }))
+      by_read (λ o. AllByRecursion IsFreshAlone (got (Some (end_event p o)) (j.parts 1)) → Runs table two_bits_watch p Read Out (with_bit (λ low. Ends (Value (2 * high + low))) o) (record j { parts = put 1 (sees (Some (end_event p o)) (j.parts 1)) j.parts }))
       o answers pass (λ low good. read_ends p high low Read Out u (record j { parts = put 1 (j.parts 1) j.parts }) lo h.writer (λ r l ne. h.readers r l) (subst (λ y. ReaderAt u j y p) at (h.readers p lo)) good.0
-      (λ x g. gone IsFreshAlone p chosen (Some (Got p x)) u refl (g, tt))) good
+      (λ x g. good_gone IsFreshAlone p chosen (Some (Got p x)) u refl (g, tt))) good
 
+  -- the rest of an operation, once its task has ended, keeps the invariant
   goes : (u : Seen) (j : View TwoBitsTask) (p : ℕ) (op : Op) (task : TwoBitsTask) (chosen : Option (ℕ × Bool)) (o : Outcome) → TwoBitsInv u j → j.tasks p ≡ Some (record { op = op; task = task })
-      → TwoBitsMayBeAt processes p op task → GoesOn u j p op chosen task o
+      → TwoBitsMayBeAt processes p op task → RunsAfterTask u j p op chosen task o
   goes u j p (Write w) (WriteHigh v) chosen o h at may = goes_write_high u j p v (Write w) chosen o h may.0 (subst (WriterAt u j) (sym (ap j.tasks may.0) ∙ at) h.writer)
   goes u j p (Write w) (WriteLow v) chosen o h at may = goes_write_low u j p v (Write w) chosen o h may.0 (subst (WriterAt u j) (sym (ap j.tasks may.0) ∙ at) h.writer)
   goes u j p Read (ReadHigh r) chosen o h at may =
-      subst (λ r. GoesOn u j p Read chosen (ReadHigh r) o) (sym may.0)
+      subst (λ r. RunsAfterTask u j p Read chosen (ReadHigh r) o) (sym may.0)
       (goes_read_high u j p chosen o h may.1 (at ∙ ap (λ r. Some (record { op = Read; task = ReadHigh r })) may.0))
   goes u j p Read (ReadLow r high) chosen o h at may =
-      subst (λ r. GoesOn u j p Read chosen (ReadLow r high) o) (sym may.0)
+      subst (λ r. RunsAfterTask u j p Read chosen (ReadLow r high) o) (sym may.0)
       (goes_read_low u j p high chosen o h may.1 (at ∙ ap (λ r. Some (record { op = Read; task = ReadLow r high })) may.0))
   goes u j p _ _ chosen o h at may = absurd may
 
-  at_first : (v : ℕ) (j : View TwoBitsTask) → ((p : ℕ) → j.tasks p ≡ None) → j.parts 0 ≡ opening (high_of v) → j.parts 1 ≡ opening (low_of v) → TwoBitsInv (opening v) j
-  at_first v j free high low = record {
+  -- the invariant holds at first
+  holds_at_first : (v : ℕ) (j : View TwoBitsTask) → ((p : ℕ) → j.tasks p ≡ None) → j.parts 0 ≡ opening (high_of v) → j.parts 1 ≡ opening (low_of v) → TwoBitsInv (opening v) j
+  holds_at_first v j free high low = record {
     writer = subst (WriterAt (opening v) j) (sym (free 0)) (record {
       writing = refl;
       high_last = ap (λ s. s.last) high;
@@ -386,16 +397,16 @@ module _ (processes : ℕ) where
 
   -- the invariant holds at first, every step keeps it, and a returned read that overlaps no write
   -- is fresh
-  pub two_bits_kept : IsKept t (TwoBitsMayBeAt processes) two_bits_watch opening (IsGoodStep IsFreshAlone)
+  pub two_bits_kept : IsKept table (TwoBitsMayBeAt processes) two_bits_watch opening (IsGoodStep IsFreshAlone)
   two_bits_kept = record {
-    initial = λ v l j words free parts. at_first v j free (parts 0 (omega arith)) (parts 1 (omega arith));
+    initial = λ v l j words free parts. holds_at_first v j free (parts 0 (omega arith)) (parts 1 (omega arith));
     passes = good_passes two_bits_watch IsFreshAlone;
     begins = begins;
     goes = λ u j p n chosen o h at may. goes u j p n.op n.task chosen o h at may;
   }
 
   -- each process acts as itself on both bits
-  pub two_bits_user : IsUser t (TwoBitsMayBeAt processes) (λ part who. who)
+  pub two_bits_user : IsUser table (TwoBitsMayBeAt processes) (λ part who. who)
   two_bits_user p (Write w) (WriteHigh v) may = sym may.0
   two_bits_user p (Write w) (WriteLow v) may = sym may.0
   two_bits_user p Read (ReadHigh r) may = may.0

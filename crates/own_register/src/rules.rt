@@ -4,7 +4,7 @@ ghost use Rattle.std.specs.Prelude.{◌≡◌, ℕ, ◌<◌, ◌≤◌, ◌^◌,
 ghost use Rattle.layers.specs.Fit.{refusal_below};
 ghost use Rattle.layers.specs.Nested.{layered};
 ghost use Rattle.own_register.specs.Program.{high_of, low_of, two_bits_table, TwoBitsMayBeAt, two_bits_left};
-ghost use Rattle.own_register.specs.laws.Sound.{two_bits_sound, two_bits_task_decides, two_bits_alike};
+ghost use Rattle.own_register.specs.laws.Sound.{two_bits_sound, two_bits_task_decides, two_bits_table_alike};
 
 use crate::task::{NAME, TwoBitsTask};
 use layers::prelude::*;
@@ -40,6 +40,7 @@ pub trait NewTwoBits<S: Register>: Sized {
 impl<S: Register> NewTwoBits<S> for TwoBits<S> {
     fn new(below: S) -> Result<TwoBits<S>, LayerError> {
         let processes = below.processes();
+        // The rules' field `some` needs this; `over` checks the limits.
         if processes == 0 {
             return Err(LayerError::BadSize);
         }
@@ -190,7 +191,7 @@ impl Construction for TwoBitsRules {
 
     ghost sound = { λ l. two_bits_sound l.processes l.some };
 
-    ghost alike = { λ a b h. two_bits_alike a.processes b.processes h };
+    ghost alike = { λ a b h. two_bits_table_alike a.processes b.processes h };
 
     ghost same_task = { two_bits_task_decides };
 }

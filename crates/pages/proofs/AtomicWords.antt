@@ -15,19 +15,20 @@ use Rattle.frames.specs.OneWriter.{HasOneWriter}
 use Rattle.frames.specs.Recorded.{recorded}
 use Rattle.frames.specs.correctness.Verdicts.{Known, is_refused, counts, accepted, initially, returning, reading}
 use Rattle.frames.specs.correctness.Regularity.{in_progress, OnReturn, by_number, IsNumber, Numbered, IsAtomic}
-use Rattle.pages.specs.VerdictWords.{begins_or_ends, IsQuiet, InProgress, has_role, IsOneWriterHistory, ReturnedRead, during, afterwards, is_written, is_got, returned_reads, RecordsHistories}
+use Rattle.pages.specs.VerdictWords.{begins_or_ends, IsQuiet, InProgress, has_role, IsOneWriterHistory, ReturnedRead, during, afterwards, is_written, is_got, returned_reads, RecordsOneWriter}
 use Rattle.pages.specs.LawWords.{returned_writes, IsWrite, NumbersRead, AreNumbered, IsAtomicInWords}
 use Rattle.pages.proofs.VerdictKnown.{no_event, HaveRoles, roles-right, history-left, noting, known, known-append, noting_split, writing_of_progress, progress_of_writing, noting_returned, known_grows, EndsWrites, ends_writes_after, reading_of_progress}
-use Rattle.pages.proofs.VerdictOverlaps.{write_ends, still_unrefused, returned_unrefused, roles_since}
-use Rattle.pages.proofs.VerdictWords.{ends_writes, then_known, read_of}
+use Rattle.pages.proofs.VerdictOverlaps.{in_progress_or_returns, still_unrefused, returned_unrefused, roles_since}
+use Rattle.pages.proofs.VerdictWords.{ends_writes, known_when_returned, read_of}
 
--- counts of returned writes
-count_write : (b : Bool) (e : ℕ × Event) (es : List (ℕ × Event)) → length (cond b (e ∷ es) es) ≡ cond b 1 0 + length es
-count_write true e es = omega arith
-count_write false e es = omega arith
+-- as `length-cons_if`, with the item counted on its own
+length-cons_if_sum : (b : Bool) (e : ℕ × Event) (es : List (ℕ × Event)) → length (cond b (e ∷ es) es) ≡ cond b 1 0 + length es
+length-cons_if_sum true e es = omega arith
+length-cons_if_sum false e es = omega arith
 
+-- how many writes return in a list: in its first event and in the others, or in its two parts
 writes_first : (e : ℕ × Event) (es : List (ℕ × Event)) → returned_writes (e ∷ es) ≡ cond (is_written e.1) 1 0 + returned_writes es
-writes_first e es = count_write (is_written e.1) e (filter (λ x. is_written x.1) es)
+writes_first e es = length-cons_if_sum (is_written e.1) e (filter (λ x. is_written x.1) es)
 
 writes-append : (xs ys : List (ℕ × Event)) → returned_writes (xs ++ ys) ≡ returned_writes xs + returned_writes ys
 writes-append xs ys = ap length (filter-append (λ e. is_written e.1) xs ys) ∙ length-append (filter (λ e. is_written e.1) xs) (filter (λ e. is_written e.1) ys)
@@ -78,6 +79,7 @@ record ReturnAt (k : Known) (xs later : List (ℕ × Event)) (m v : ℕ) : Type 
   writing : (known k before ((step, Wrote 0) ∷ (since ++ later))).writing ≡ Some v
   count : length (known k before ((step, Wrote 0) ∷ (since ++ later))).returned ≡ m
 
+-- the writes that return in events: the one in progress returns first, or one in the rest does
 return_now : (o : Option ℕ) (k : Known) (i p : ℕ) (es later : List (ℕ × Event)) (m d : ℕ) → k.writing ≡ o → p ≡ 0 → length k.returned ≤ m → m < length (returning o k).returned
     → ReturnAt k ((i, Wrote p) ∷ es) later m (get_or (known (returning o k) es later).returned m d)
 return_now None k i p es later m d w z low high = let f : ⊥ = omega (arith, low, high) in absurd f
@@ -109,6 +111,8 @@ return_after k e es later m v r =
       count = ap (λ n. length (known n r.before ((r.step, Wrote 0) ∷ (r.since ++ later))).returned) same ∙ r.count;
     }
 
+-- if the values of more than m returned writes are known after `xs`, and of at most m before, then
+-- the write whose value is at index m returns in `xs`
 return_at : (k : Known) (xs later : List (ℕ × Event)) (m d : ℕ) → HaveRoles xs → length k.returned ≤ m → m < length (known k xs later).returned
     → ReturnAt k xs later m (get_or (known k xs later).returned m d)
 return_at k [] later m d r low high = let f : ⊥ = omega (arith, low, high) in absurd f
@@ -201,7 +205,7 @@ module _ (initial : ℕ) where
 
   value_of_write : (xs later : List (ℕ × Event)) (n v : ℕ) → IsOneWriterHistory (xs ++ later) → IsWrite n v xs later → HasValue xs later n v
   value_of_write xs later n v whole w =
-      elim (write_ends v xs later w.before w.step w.since whole w.split w.unrefused) [
+      elim (in_progress_or_returns v xs later w.before w.step w.since whole w.split w.unrefused) [
         | inl still ↦
             let p : InProgress 0 (op.Write v) xs = record { earlier = w.before; step = w.step; since = w.since; split = w.split; quiet = still.0 } in
             let k : Known = known first xs later in
@@ -242,13 +246,13 @@ module _ (initial : ℕ) where
     whole_history = subst IsOneWriterHistory r.split h
 
     -- how many writes had returned as a read was invoked
-    since_is_returned_writes : (reading r.process (then_known initial r)).since ≡ returned_writes r.earlier
+    since_is_returned_writes : (reading r.process (known_when_returned initial r)).since ≡ returned_writes r.earlier
     since_is_returned_writes =
         let left = history-left r.earlier (during r) (history-left before (afterwards r) whole_history) in
         ap (λ (x : Reading). x.since) (reading_of_progress r.process first r.earlier r.since (afterwards r) r.invoked r.quiet)
         ∙ returned_count first r.earlier (during r ++ afterwards r) (ends_writes initial r.earlier (during r ++ afterwards r) left) ∙ (omega arith)
 
-    number_in_words : (n : ℕ) → IsNumber initial (then_known initial r) r.process r.value n → NumbersRead initial n r
+    number_in_words : (n : ℕ) → IsNumber initial (known_when_returned initial r) r.process r.value n → NumbersRead initial n r
     number_in_words n is = record { low = (let s = since_is_returned_writes in let low = is.low in omega (arith, s, low)); write = by n is.high is.value_of }
       where
         by : (n : ℕ) → n < length (initial ∷ values before (afterwards r)) → get_or (initial ∷ values before (afterwards r)) n initial ≡ r.value
@@ -257,17 +261,17 @@ module _ (initial : ℕ) where
         by (suc m) high value =
             inr (subst (λ i. IsWrite i r.value before (afterwards r)) (let e : m + 1 ≡ suc m = omega arith in e) (write_of_value before (afterwards r) m r.value initial whole_history (omega (arith, high)) value))
 
-    number_by_words : (n : ℕ) → NumbersRead initial n r → IsNumber initial (then_known initial r) r.process r.value n
+    number_by_words : (n : ℕ) → NumbersRead initial n r → IsNumber initial (known_when_returned initial r) r.process r.value n
     number_by_words n w = by w.write
       where
-        low : (reading r.process (then_known initial r)).since ≤ n
+        low : (reading r.process (known_when_returned initial r)).since ≤ n
         low = let s = since_is_returned_writes in let l = w.low in omega (arith, s, l)
 
-        by : ((n ≡ 0) × (r.value ≡ initial)) ⊎ IsWrite n r.value before (afterwards r) → IsNumber initial (then_known initial r) r.process r.value n
+        by : ((n ≡ 0) × (r.value ≡ initial)) ⊎ IsWrite n r.value before (afterwards r) → IsNumber initial (known_when_returned initial r) r.process r.value n
         by (inl z) = record {
           low = low;
           high = (let e : n ≡ 0 = z.0 in omega (arith, e));
-          value_of = ap (λ i. get_or (by_number initial (then_known initial r)) i initial) z.0 ∙ sym z.1;
+          value_of = ap (λ i. get_or (by_number initial (known_when_returned initial r)) i initial) z.0 ∙ sym z.1;
         }
         by (inr write) = let v = value_of_write before (afterwards r) n r.value whole_history write in record { low = low; high = v.high; value_of = v.value }
 
@@ -429,7 +433,7 @@ module _ (initial : ℕ) where
     })
 
 -- the two definitions of an atomic register are equivalent
-pub atomic_words_alike : {P : Type 0} (b : Behaviour P) → (HasOneWriter b → RecordsHistories b) → IsAtomic b ↔ IsAtomicInWords b
+pub atomic_words_alike : {P : Type 0} (b : Behaviour P) → (HasOneWriter b → RecordsOneWriter b) → IsAtomic b ↔ IsAtomicInWords b
 atomic_words_alike b records = (
   λ h. record {
     one_writer = h.one_writer;

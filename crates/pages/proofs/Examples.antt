@@ -21,7 +21,7 @@ use Rattle.frames.specs.Behaviour.{Behaviour}
 use Rattle.frames.specs.Configuration.{fits_step}
 use Rattle.frames.specs.Recorded.{AllFit, recorded}
 use Rattle.frames.specs.correctness.Verdicts.{verdicts}
-use Rattle.pages.specs.VerdictWords.{begins_or_ends, IsQuiet, InProgress, Follows, ReturnedRead, IsLastWritten, IsVerdictOn, EndsBy, IsOverlapping, IsJudged}
+use Rattle.pages.specs.VerdictWords.{begins_or_ends, IsQuiet, InProgress, Follows, ReturnedRead, IsLastReturnedWrite, IsVerdictOn, EndsBy, IsOverlapping, IsJudged}
 use Rattle.pages.specs.LawWords.{IsWrite, AreNumbered}
 use Rattle.pages.specs.Linearizability.{Operation, EndsAt, Order, IsWriteBefore, IsLastWrite, IsValueAt, HasLinearization}
 use Rattle.pages.specs.Linearizability as linear
@@ -120,12 +120,12 @@ ReturnedRead-fails h = by h.earlier h.since h.later h.split
     by (x ∷ earlier) since later e = no_event (earlier ++ (h.invoked, Invoke h.process Read) ∷ since) _ later (ap (drop 1) e)
 
 -- the write of 1 is the last that returned
-IsLastWritten-holds : IsLastWritten 1 (write_begins ∷ (1, Wrote 0) ∷ [])
-IsLastWritten-holds = record { earlier = write_begins ∷ []; step = 1; since = []; split = refl; write = record { earlier = []; step = 0; since = []; split = refl; quiet = refl }; last = refl }
+IsLastReturnedWrite-holds : IsLastReturnedWrite 1 (write_begins ∷ (1, Wrote 0) ∷ [])
+IsLastReturnedWrite-holds = record { earlier = write_begins ∷ []; step = 1; since = []; split = refl; write = record { earlier = []; step = 0; since = []; split = refl; quiet = refl }; last = refl }
 
 -- the last write that returned was not one of 0
-IsLastWritten-fails : IsLastWritten 0 (write_begins ∷ (1, Wrote 0) ∷ []) → ⊥
-IsLastWritten-fails h = by h.earlier h.step h.since h.split h.write
+IsLastReturnedWrite-fails : IsLastReturnedWrite 0 (write_begins ∷ (1, Wrote 0) ∷ []) → ⊥
+IsLastReturnedWrite-fails h = by h.earlier h.step h.since h.split h.write
   where
     by : (earlier : Events) (k : ℕ) (since : Events) → write_begins ∷ (1, Wrote 0) ∷ [] ≡ earlier ++ (k, Wrote 0) ∷ since → InProgress 0 (Write 0) earlier → ⊥
     by [] k since e write = wrote_is_not_invocation 0 0 (Write 1) (sym (ap (event_at_index 0) e))
@@ -261,7 +261,7 @@ IsJudged-fails h = by h.before h.verdict h.following h.split h.on_it
     none [] back r e = cc
     none (x ∷ front) back r e = cc
 
-    last : IsLastWritten 1 ((0, Invoke 1 (Write 1)) ∷ (1, Wrote 1) ∷ []) → ⊥
+    last : IsLastReturnedWrite 1 ((0, Invoke 1 (Write 1)) ∷ (1, Wrote 1) ∷ []) → ⊥
     last w = at w.earlier w.step w.since w.split
       where
         at : (earlier : Events) (k : ℕ) (since : Events) → (0, Invoke 1 (Write 1)) ∷ (1, Wrote 1) ∷ [] ≡ earlier ++ (k, Wrote 0) ∷ since → ⊥
@@ -279,11 +279,12 @@ IsJudged-fails h = by h.before h.verdict h.following h.split h.on_it
         fresh (subst (IsVerdictOn 0 read_of_1) (sym same) is)
     by (x ∷ before) verdict others e is = none before others _ (ap (drop 1) e)
 
-abbrev read_verdict : ReadVerdict
-read_verdict = record { step = 2; process = 1; value = 0; verdict = Fresh }
+-- the verdict on a read of 0 by process 1 that returns in the step with index 2
+abbrev fresh_read_verdict : ReadVerdict
+fresh_read_verdict = record { step = 2; process = 1; value = 0; verdict = Fresh }
 
 -- process 1 reads a safe bit whose value is 0: one invocation and two bit actions
-AreVerdictsOn-holds : AreVerdictsOn safe_behaviour (read_verdict ∷ [])
+AreVerdictsOn-holds : AreVerdictsOn safe_behaviour (fresh_read_verdict ∷ [])
 AreVerdictsOn-holds = record { value = 0; steps = step.Read 1 ∷ step.Go 1 0 ∷ step.Go 1 0 ∷ []; within = omega arith; fit = fit; judged = refl }
   where
     fits : Step → Type 0
@@ -311,13 +312,13 @@ no_step (step.Go p c) e = none_below_zero p (nat_lt c 2) e
 no_step (step.Stop p) e = let less : p < 0 = ltb-true p 0 e in omega (arith, less)
 
 -- no read of that bit is judged
-AreVerdictsOn-fails : AreVerdictsOn unused_bit (read_verdict ∷ []) → ⊥
+AreVerdictsOn-fails : AreVerdictsOn unused_bit (fresh_read_verdict ∷ []) → ⊥
 AreVerdictsOn-fails h = by h.steps h.fit h.judged
   where
-    none : read_verdict ∷ [] ≡ [] → ⊥
+    none : fresh_read_verdict ∷ [] ≡ [] → ⊥
     none e = cc
 
-    by : (steps : List Step) → AllFit unused_bit steps → read_verdict ∷ [] ≡ verdicts h.value (recorded unused_bit h.value steps) → ⊥
+    by : (steps : List Step) → AllFit unused_bit steps → fresh_read_verdict ∷ [] ≡ verdicts h.value (recorded unused_bit h.value steps) → ⊥
     by [] fit e = none e
     by (s ∷ steps) fit e = no_step s (All-head (λ s. fits_step unused_bit s ≡ true) s steps fit)
 
@@ -358,13 +359,13 @@ HasLinearization-holds : HasLinearization 0 pending_write
 HasLinearization-holds = ranks_linearize 0 pending_write (0, (Some 1, ((omega arith, refl), (None, (tt, (Some 1, ((omega arith, refl), tt)))))))
 
 -- one more than the value of the write that an event invokes; 0 for any other event
-abbrev written_by : Option Event → ℕ
-written_by (Some (Invoke p (Write v))) = v + 1
-written_by e = 0
+abbrev value_written_plus_1 : Option Event → ℕ
+value_written_plus_1 (Some (Invoke p (Write v))) = v + 1
+value_written_plus_1 e = 0
 
--- for the event that invokes a write of v, `written_by` gives v + 1
-invokes_write : {history : Events} (v : ℕ) (a : Operation history) → a.op ≡ Write v → written_by (linear.event_at history a.number) ≡ v + 1
-invokes_write v a is = ap written_by (a.invoked ∙ ap (λ o. Some (Invoke a.process o)) is)
+-- for the event that invokes a write of v, `value_written_plus_1` gives v + 1
+invokes_write : {history : Events} (v : ℕ) (a : Operation history) → a.op ≡ Write v → value_written_plus_1 (linear.event_at history a.number) ≡ v + 1
+invokes_write v a is = ap value_written_plus_1 (a.invoked ∙ ap (λ o. Some (Invoke a.process o)) is)
 
 -- 1 isn't the initial value, 0
 not_initial : ◌≡◌ {A = ℕ} 1 0 → ⊥
@@ -378,16 +379,16 @@ ends_next a end there own = record { later = omega arith; there = there; own = o
 -- whether no event of a history invokes a write of 0
 abbrev never_zero : Events → Bool
 never_zero [] = true
-never_zero (e ∷ history) = if nat_eq (written_by (Some e.1)) 1 then false else never_zero history
+never_zero (e ∷ history) = if nat_eq (value_written_plus_1 (Some e.1)) 1 then false else never_zero history
 
 never_later : (b later : Bool) → (if b then false else later) ≡ true → later ≡ true
 never_later true later never = absurd (true≢false (sym never))
 never_later false later never = never
 
-no_zero : (history : Events) → never_zero history ≡ true → (n : ℕ) → written_by (linear.event_at history n) ≡ 1 → ⊥
+no_zero : (history : Events) → never_zero history ≡ true → (n : ℕ) → value_written_plus_1 (linear.event_at history n) ≡ 1 → ⊥
 no_zero [] never n e = omega (arith, e)
 no_zero (x ∷ history) never zero e = true≢false (sym (subst (λ w. (if nat_eq w 1 then false else never_zero history) ≡ true) e never))
-no_zero (x ∷ history) never (suc n) e = no_zero history (never_later (nat_eq (written_by (Some x.1)) 1) (never_zero history) never) n e
+no_zero (x ∷ history) never (suc n) e = no_zero history (never_later (nat_eq (value_written_plus_1 (Some x.1)) 1) (never_zero history) never) n e
 
 -- while process 0 is writing 1, process 1 reads it, and then process 2 the older 0
 abbrev new_then_old : Events
@@ -458,7 +459,7 @@ early_read-fails h = ⊎_elim later (λ none. not_initial none.1) (h.reads read 
     ends : EndsAt read 1 (Got 1 1)
     ends = ends_next read (Got 1 1) refl refl
 
-    is_later : (n : ℕ) → written_by (linear.event_at early_read n) ≡ 1 + 1 → 1 < n
+    is_later : (n : ℕ) → value_written_plus_1 (linear.event_at early_read n) ≡ 1 + 1 → 1 < n
     is_later zero e = absurd (omega (arith, e))
     is_later (suc zero) e = absurd (omega (arith, e))
     is_later (suc (suc n)) e = omega arith
@@ -495,7 +496,7 @@ refused_was_read-fails h = ⊎_elim from_it (λ none. not_initial none.1) (h.rea
     out : h.order.has 0 ≡ false
     out = h.refused write 3 Matrix (record { later = omega arith; there = refl; own = refl; first = between })
 
-    at_zero : (n : ℕ) → written_by (linear.event_at refused_was_read n) ≡ 1 + 1 → n ≡ 0
+    at_zero : (n : ℕ) → value_written_plus_1 (linear.event_at refused_was_read n) ≡ 1 + 1 → n ≡ 0
     at_zero zero e = refl
     at_zero (suc zero) e = absurd (omega (arith, e))
     at_zero (suc (suc zero)) e = absurd (omega (arith, e))

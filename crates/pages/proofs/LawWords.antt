@@ -15,11 +15,11 @@ use Rattle.frames.specs.Recorded.{AllFit, recorded}
 use Rattle.frames.specs.declared.types.Step.{Step}
 use Rattle.frames.specs.correctness.Verdicts.{Known, is_refused, counts, accepted, initially, invoked_now, reading, is_value, judged}
 use Rattle.frames.specs.correctness.Regularity.{in_progress, overlapped, OnReturn, EachRead, FreshAlone, NotStray, AlwaysReads, IsSafe, IsRegular}
-use Rattle.pages.specs.VerdictWords.{InProgress, IsOneWriterHistory, ReturnedRead, during, afterwards, MatchVerdict, RecordsHistories}
+use Rattle.pages.specs.VerdictWords.{InProgress, IsOneWriterHistory, ReturnedRead, during, afterwards, VerdictSays, RecordsOneWriter}
 use Rattle.pages.specs.LawWords.{Overlaps, FreshIfAlone, FreshOrOverlapping, AlwaysInWords, IsSafeInWords, IsRegularInWords}
 use Rattle.pages.proofs.VerdictKnown.{history-left, noting, known, reading_of_progress}
 use Rattle.pages.proofs.VerdictOverlaps.{crossing_of_words, words_of_crossing}
-use Rattle.pages.proofs.VerdictWords.{then_known, read_of, verdict_words, test_of_crossing, crossing_of_test}
+use Rattle.pages.proofs.VerdictWords.{known_when_returned, read_of, verdict_words, test_of_crossing, crossing_of_test}
 
 module _ (Says : Known → ℕ → ℕ → Type 0) where
   -- a law that holds with one more event in front, which counts or doesn't, holds without that
@@ -57,11 +57,11 @@ module _ (Says : Known → ℕ → ℕ → Type 0) where
 
 -- from `Says` of each read, as it returns, to `Words` of each returned read, and back
 module _ (initial : ℕ) (history : List (ℕ × Event)) (h : IsOneWriterHistory history) (Says : Known → ℕ → ℕ → Type 0) (Words : ReturnedRead history → Type 0) where
-  each_in_words : ((r : ReturnedRead history) → Says (then_known initial r) r.process r.value → Words r) → EachRead Says (initially initial) (accepted history) → (r : ReturnedRead history) → Words r
+  each_in_words : ((r : ReturnedRead history) → Says (known_when_returned initial r) r.process r.value → Words r) → EachRead Says (initially initial) (accepted history) → (r : ReturnedRead history) → Words r
   each_in_words f each r =
       f r (at_return Says (initially initial) (r.earlier ++ during r) r.returned r.process r.value r.later (subst (λ l. EachRead Says (initially initial) (accepted l)) r.split each))
 
-  each_by_words : ((r : ReturnedRead history) → Words r → Says (then_known initial r) r.process r.value) → ((r : ReturnedRead history) → Words r) → EachRead Says (initially initial) (accepted history)
+  each_by_words : ((r : ReturnedRead history) → Words r → Says (known_when_returned initial r) r.process r.value) → ((r : ReturnedRead history) → Words r) → EachRead Says (initially initial) (accepted history)
   each_by_words f words = at_each_return Says (initially initial) history (λ xs i p v ys s. at xs i p v ys s (h.follows xs i (Got p v) ys s))
     where
       at : (xs : List (ℕ × Event)) (i p v : ℕ) (ys : List (ℕ × Event)) → history ≡ xs ++ (i, Got p v) ∷ ys → InProgress p op.Read xs → Says (known (initially initial) xs ((i, Got p v) ∷ ys)) p v
@@ -70,23 +70,23 @@ module _ (initial : ℕ) (history : List (ℕ × Event)) (h : IsOneWriterHistory
           subst (λ l. Says (known (initially initial) l ((i, Got p v) ∷ ys)) p v) (sym w.split) (f r (words r))
 
 -- what a verdict says of A, that the value is fresh, and of B, that a write of the value overlaps
-seen_unless_stray : (verdict : Verdict) (A B : Type 0) → MatchVerdict verdict A B → verdict ≢ Stray → A ⊎ B
+seen_unless_stray : (verdict : Verdict) (A B : Type 0) → VerdictSays verdict A B → verdict ≢ Stray → A ⊎ B
 seen_unless_stray Fresh A B h n = inl h
 seen_unless_stray Overlap A B h n = inr h.1
 seen_unless_stray Stray A B h n = absurd (n refl)
 
-not_stray_if_seen : (verdict : Verdict) (A B : Type 0) → MatchVerdict verdict A B → A ⊎ B → verdict ≢ Stray
+not_stray_if_seen : (verdict : Verdict) (A B : Type 0) → VerdictSays verdict A B → A ⊎ B → verdict ≢ Stray
 not_stray_if_seen Fresh A B h s = λ e. cc
 not_stray_if_seen Overlap A B h s = λ e. cc
 not_stray_if_seen Stray A B h (inl a) = absurd (h.0 a)
 not_stray_if_seen Stray A B h (inr b) = absurd (h.1 b)
 
-value_fresh_if_verdict : (verdict : Verdict) (A B : Type 0) → MatchVerdict verdict A B → verdict ≡ Fresh → A
+value_fresh_if_verdict : (verdict : Verdict) (A B : Type 0) → VerdictSays verdict A B → verdict ≡ Fresh → A
 value_fresh_if_verdict Fresh A B h e = h
 value_fresh_if_verdict Overlap A B h e = absurd cc
 value_fresh_if_verdict Stray A B h e = absurd cc
 
-verdict_fresh_if_value : (verdict : Verdict) (A B : Type 0) → MatchVerdict verdict A B → A → verdict ≡ Fresh
+verdict_fresh_if_value : (verdict : Verdict) (A B : Type 0) → VerdictSays verdict A B → A → verdict ≡ Fresh
 verdict_fresh_if_value Fresh A B h a = refl
 verdict_fresh_if_value Overlap A B h a = absurd (h.0 a)
 verdict_fresh_if_value Stray A B h a = absurd (h.0 a)
@@ -105,7 +105,7 @@ empty_if_no_value_passes (x ∷ xs) o n = absurd (n x (ap (λ b. (b || list_any 
 module _ (initial : ℕ) (history : List (ℕ × Event)) (h : IsOneWriterHistory history) (r : ReturnedRead history) where
   -- what is known when the read returns, and what was known when it was invoked
   abbrev known_at_return : Known
-  known_at_return = then_known initial r
+  known_at_return = known_when_returned initial r
 
   abbrev known_at_invocation : Known
   known_at_invocation = known (initially initial) r.earlier (during r ++ afterwards r)
@@ -145,9 +145,9 @@ module _ (initial : ℕ) (history : List (ℕ × Event)) (h : IsOneWriterHistory
   regular_by_words says = not_stray_if_seen (judged known_at_return r.process r.value) _ _ (verdict_words initial history h r) says
 
 -- from the law that `Says` holds of each read as it returns to the law in words, and back
-module _ {P : Type 0} (b : Behaviour P) (records : HasOneWriter b → RecordsHistories b) where
+module _ {P : Type 0} (b : Behaviour P) (records : HasOneWriter b → RecordsOneWriter b) where
   module _ (Says : Known → ℕ → ℕ → Type 0) (Words : (history : List (ℕ × Event)) → ℕ → ReturnedRead history → Type 0) where
-    always_in_words : ((initial : ℕ) (history : List (ℕ × Event)) → IsOneWriterHistory history → (r : ReturnedRead history) → Says (then_known initial r) r.process r.value → Words history initial r)
+    always_in_words : ((initial : ℕ) (history : List (ℕ × Event)) → IsOneWriterHistory history → (r : ReturnedRead history) → Says (known_when_returned initial r) r.process r.value → Words history initial r)
         → AlwaysReads b Says → AlwaysInWords b Words
     always_in_words to h = record { one_writer = h.one_writer; refuses_none = h.refuses_none; each_read = each }
       where
@@ -156,7 +156,7 @@ module _ {P : Type 0} (b : Behaviour P) (records : HasOneWriter b → RecordsHis
             let history = records h.one_writer value steps within fit in
             each_in_words value (recorded b value steps) history Says (Words (recorded b value steps) value) (to value (recorded b value steps) history) (h.each_read value steps within fit)
 
-    always_by_words : ((initial : ℕ) (history : List (ℕ × Event)) → IsOneWriterHistory history → (r : ReturnedRead history) → Words history initial r → Says (then_known initial r) r.process r.value)
+    always_by_words : ((initial : ℕ) (history : List (ℕ × Event)) → IsOneWriterHistory history → (r : ReturnedRead history) → Words history initial r → Says (known_when_returned initial r) r.process r.value)
         → AlwaysInWords b Words → AlwaysReads b Says
     always_by_words from h = record { one_writer = h.one_writer; refuses_none = h.refuses_none; each_read = each }
       where

@@ -1,10 +1,10 @@
 pub mod Ranges
 pub mod Lines
-pub mod VerdictRows
+pub mod VerdictExamples
 pub mod VerdictKnown
 pub mod VerdictWords
 pub mod VerdictOverlaps
-pub mod VerdictHistories
+pub mod RecordedHistories
 pub mod LawWords
 pub mod AtomicWords
 mod Examples

@@ -83,26 +83,26 @@ value_stays r (Stop p) n m v h is = is
 value_stays r (Chosen p bit u) n m v h is = is
 
 -- the rank m had the value v before the event, or the event invokes a write of v with this rank
-abbrev HadOrGetsValue : Ranking → Event → Option ℕ → ℕ → ℕ → Type 0
-HadOrGetsValue r e n m v = (r.values m ≡ Some v) ⊎ ((p : ℕ) × ((e ≡ Invoke p (op.Write v)) × (n ≡ Some m)))
+abbrev GetsOrHadValue : Ranking → Event → Option ℕ → ℕ → ℕ → Type 0
+GetsOrHadValue r e n m v = (r.values m ≡ Some v) ⊎ ((p : ℕ) × ((e ≡ Invoke p (op.Write v)) × (n ≡ Some m)))
 
-value_from : (r : Ranking) (e : Event) (n : Option ℕ) (m v : ℕ) → (after_rank r e n).values m ≡ Some v → HadOrGetsValue r e n m v
-value_from r (Invoke p (op.Write u)) (Some n) m v is = elim (cases_eq m n) as (λ _. HadOrGetsValue r (Invoke p (op.Write u)) (Some n) m v) [
+gets_or_had_value : (r : Ranking) (e : Event) (n : Option ℕ) (m v : ℕ) → (after_rank r e n).values m ≡ Some v → GetsOrHadValue r e n m v
+gets_or_had_value r (Invoke p (op.Write u)) (Some n) m v is = elim (cases_eq m n) as (λ _. GetsOrHadValue r (Invoke p (op.Write u)) (Some n) m v) [
   | inl same ↦
       let now : Some u ≡ Some v = sym (put_same n (Some u) r.values) ∙ sym (ap (put n (Some u) r.values) same) ∙ is in
       inr (p, (ap (λ (o : Option ℕ). Invoke p (op.Write (unwrap_or o u))) now, ap Some (sym same)))
   | inr other ↦ inl (sym (put_other n m (Some u) r.values other) ∙ is)
 ]
-value_from r (Invoke p (op.Write u)) None m v is = inl is
-value_from r (Invoke p op.Read) n m v is = inl is
-value_from r (Got p u) (Some n) m v is = inl is
-value_from r (Got p u) None m v is = inl is
-value_from r (Wrote p) (Some n) m v is = inl is
-value_from r (Wrote p) None m v is = inl is
-value_from r (Refused p layer) n m v is = inl is
-value_from r (Void p reason) n m v is = inl is
-value_from r (Stop p) n m v is = inl is
-value_from r (Chosen p bit u) n m v is = inl is
+gets_or_had_value r (Invoke p (op.Write u)) None m v is = inl is
+gets_or_had_value r (Invoke p op.Read) n m v is = inl is
+gets_or_had_value r (Got p u) (Some n) m v is = inl is
+gets_or_had_value r (Got p u) None m v is = inl is
+gets_or_had_value r (Wrote p) (Some n) m v is = inl is
+gets_or_had_value r (Wrote p) None m v is = inl is
+gets_or_had_value r (Refused p layer) n m v is = inl is
+gets_or_had_value r (Void p reason) n m v is = inl is
+gets_or_had_value r (Stop p) n m v is = inl is
+gets_or_had_value r (Chosen p bit u) n m v is = inl is
 
 -- what is known of a process is the same after an event that neither begins nor ends an operation
 -- of the process
@@ -180,7 +180,7 @@ abbrev pub is_own : ℕ → Option Event → Bool
 is_own p None = false
 is_own p (Some e) = begins_or_ends p e
 
-some_if_is_some : (o : Option ℕ) → is_some o ≡ true → (n : ℕ) × (o ≡ Some n)
+pub some_if_is_some : (o : Option ℕ) → is_some o ≡ true → (n : ℕ) × (o ≡ Some n)
 some_if_is_some (Some n) h = (n, refl)
 some_if_is_some None h = absurd (true≢false (sym h))
 
@@ -260,7 +260,7 @@ module _ (initial : ℕ) (history : List (ℕ × Event)) (ranks : HasRanks initi
       by earlier None at = earlier (subst (λ (r : Ranking). r.values n ≡ Some v) (state_past_end j at) is)
       by earlier (Some e) at =
           let done = takes_rank j e at in
-          elim (value_from (state j) e (given_rank j) n v (subst (λ (r : Ranking). r.values n ≡ Some v) done.1 is)) as (λ _. HasOrigin n v) [
+          elim (gets_or_had_value (state j) e (given_rank j) n v (subst (λ (r : Ranking). r.values n ≡ Some v) done.1 is)) as (λ _. HasOrigin n v) [
             | inl was ↦ earlier was
             | inr now ↦ inr (j, (now.0, (at ∙ ap Some now.1.0, now.1.1)))
           ]
@@ -291,9 +291,9 @@ module _ (initial : ℕ) (history : List (ℕ × Event)) (ranks : HasRanks initi
 
   -- the rank given to the first of m events, from number k on, by which p begins or ends an
   -- operation, if that event is the return of a read; else `None`
-  abbrev scan : ℕ → ℕ → ℕ → Option ℕ
-  scan p zero k = None
-  scan p (suc m) k = if is_own p (event_at history k) then rank_if_got (event_at history k) (given_rank k) else scan p m (suc k)
+  abbrev return_rank : ℕ → ℕ → ℕ → Option ℕ
+  return_rank p zero k = None
+  return_rank p (suc m) k = if is_own p (event_at history k) then rank_if_got (event_at history k) (given_rank k) else return_rank p m (suc k)
 
   not_own_if_quiet : (p k : ℕ) → ((e : Event) → event_at history k ≡ Some e → begins_or_ends p e ≡ false) → is_own p (event_at history k) ≡ false
   not_own_if_quiet p k quiet = by (event_at history k) refl
@@ -302,28 +302,28 @@ module _ (initial : ℕ) (history : List (ℕ × Event)) (ranks : HasRanks initi
       by None at = refl
       by (Some e) at = quiet e at
 
-  scan_ends : (p m k j : ℕ) (e : Event) → k ≤ j → j < k + m → event_at history j ≡ Some e → begins_or_ends p e ≡ true
-      → ((i : ℕ) (other : Event) → k ≤ i → i < j → event_at history i ≡ Some other → begins_or_ends p other ≡ false) → scan p m k ≡ rank_if_got (Some e) (given_rank j)
-  scan_ends p zero k j e low high at own quiet = let f : ⊥ = omega (arith, low, high) in absurd f
-  scan_ends p (suc m) k j e low high at own quiet = elim (cases_eq k j) as (λ _. scan p (suc m) k ≡ rank_if_got (Some e) (given_rank j)) [
+  return_rank_at_end : (p m k j : ℕ) (e : Event) → k ≤ j → j < k + m → event_at history j ≡ Some e → begins_or_ends p e ≡ true
+      → ((i : ℕ) (other : Event) → k ≤ i → i < j → event_at history i ≡ Some other → begins_or_ends p other ≡ false) → return_rank p m k ≡ rank_if_got (Some e) (given_rank j)
+  return_rank_at_end p zero k j e low high at own quiet = let f : ⊥ = omega (arith, low, high) in absurd f
+  return_rank_at_end p (suc m) k j e low high at own quiet = elim (cases_eq k j) as (λ _. return_rank p (suc m) k ≡ rank_if_got (Some e) (given_rank j)) [
     | inl same ↦
-        ap (λ o. if is_own p o then rank_if_got o (given_rank k) else scan p m (suc k)) (ap (event_at history) same ∙ at)
-        ∙ ap (λ b. if b then rank_if_got (Some e) (given_rank k) else scan p m (suc k)) own ∙ ap (λ i. rank_if_got (Some e) (given_rank i)) same
+        ap (λ o. if is_own p o then rank_if_got o (given_rank k) else return_rank p m (suc k)) (ap (event_at history) same ∙ at)
+        ∙ ap (λ b. if b then rank_if_got (Some e) (given_rank k) else return_rank p m (suc k)) own ∙ ap (λ i. rank_if_got (Some e) (given_rank i)) same
     | inr other ↦
         let less : k < j = grind (arith, low, other) in
-        ap (λ b. if b then rank_if_got (event_at history k) (given_rank k) else scan p m (suc k)) (not_own_if_quiet p k (λ x there. quiet k x (omega arith) less there))
-        ∙ scan_ends p m (suc k) j e (omega (arith, less)) (omega (arith, high)) at own (λ i x after before there. quiet i x (omega (arith, after)) before there)
+        ap (λ b. if b then rank_if_got (event_at history k) (given_rank k) else return_rank p m (suc k)) (not_own_if_quiet p k (λ x there. quiet k x (omega arith) less there))
+        ∙ return_rank_at_end p m (suc k) j e (omega (arith, less)) (omega (arith, high)) at own (λ i x after before there. quiet i x (omega (arith, after)) before there)
   ]
 
   -- the operation ends by giving a value, so it is a returned read
   abbrev ReturnsValue : Operation history → Type 0
   ReturnsValue o = (j : ℕ) × ((v : ℕ) × EndsAt o j (Got o.process v))
 
-  scan_found : (o : Operation history) (m k : ℕ) → o.number < k → ((i : ℕ) (other : Event) → o.number < i → i < k → event_at history i ≡ Some other → begins_or_ends o.process other ≡ false)
-      → is_some (scan o.process m k) ≡ true → ReturnsValue o
-  scan_found o zero k low quiet found = absurd (true≢false (sym found))
-  scan_found o (suc m) k low quiet found =
-      by (λ none rest. scan_found o m (suc k) (omega (arith, low)) (later none) rest) (event_at history k) refl found
+  returns_value_if_ranked : (o : Operation history) (m k : ℕ) → o.number < k → ((i : ℕ) (other : Event) → o.number < i → i < k → event_at history i ≡ Some other → begins_or_ends o.process other ≡ false)
+      → is_some (return_rank o.process m k) ≡ true → ReturnsValue o
+  returns_value_if_ranked o zero k low quiet found = absurd (true≢false (sym found))
+  returns_value_if_ranked o (suc m) k low quiet found =
+      by (λ none rest. returns_value_if_ranked o m (suc k) (omega (arith, low)) (later none) rest) (event_at history k) refl found
     where
       later : is_own o.process (event_at history k) ≡ false → (i : ℕ) (other : Event) → o.number < i → i < suc k → event_at history i ≡ Some other → begins_or_ends o.process other ≡ false
       later none i x after before there = elim (cases_eq i k) as (λ _. begins_or_ends o.process x ≡ false) [
@@ -332,9 +332,9 @@ module _ (initial : ℕ) (history : List (ℕ × Event)) (ranks : HasRanks initi
       ]
 
       Further : Type 0
-      Further = is_own o.process (event_at history k) ≡ false → is_some (scan o.process m (suc k)) ≡ true → ReturnsValue o
+      Further = is_own o.process (event_at history k) ≡ false → is_some (return_rank o.process m (suc k)) ≡ true → ReturnsValue o
 
-      here : Further → (e : Event) → event_at history k ≡ Some e → (b : Bool) → begins_or_ends o.process e ≡ b → is_some (if b then rank_if_got (Some e) (given_rank k) else scan o.process m (suc k)) ≡ true → ReturnsValue o
+      here : Further → (e : Event) → event_at history k ≡ Some e → (b : Bool) → begins_or_ends o.process e ≡ b → is_some (if b then rank_if_got (Some e) (given_rank k) else return_rank o.process m (suc k)) ≡ true → ReturnsValue o
       here further e at true own rest =
           let read = got_if_ranked e (given_rank k) rest in
           let same : read.0 ≡ o.process = eqb-true read.0 o.process (sym (ap (begins_or_ends o.process) read.1.1) ∙ own) in
@@ -342,7 +342,7 @@ module _ (initial : ℕ) (history : List (ℕ × Event)) (ranks : HasRanks initi
           (k, (read.1.0, record { later = low; there = at ∙ ap Some is; own = ap (begins_or_ends o.process) (sym is) ∙ own; first = quiet }))
       here further e at false own rest = further (ap (is_own o.process) at ∙ own) rest
 
-      by : Further → (x : Option Event) → event_at history k ≡ x → is_some (if is_own o.process x then rank_if_got x (given_rank k) else scan o.process m (suc k)) ≡ true → ReturnsValue o
+      by : Further → (x : Option Event) → event_at history k ≡ x → is_some (if is_own o.process x then rank_if_got x (given_rank k) else return_rank o.process m (suc k)) ≡ true → ReturnsValue o
       by further None at rest = further (ap (is_own o.process) at) rest
       by further (Some e) at rest = here further e at (begins_or_ends o.process e) refl rest
 
@@ -350,7 +350,7 @@ module _ (initial : ℕ) (history : List (ℕ × Event)) (ranks : HasRanks initi
   -- that rank: 0 for a write, i + 1 for a read
   abbrev rank_by : ℕ → Option Event → Option ℕ
   rank_by i (Some (Invoke p (op.Write v))) = given_rank i
-  rank_by i (Some (Invoke p op.Read)) = scan p (length history) (suc i)
+  rank_by i (Some (Invoke p op.Read)) = return_rank p (length history) (suc i)
   rank_by i o = None
 
   abbrev offset_by : ℕ → Option Event → ℕ
@@ -387,7 +387,7 @@ module _ (initial : ℕ) (history : List (ℕ × Event)) (ranks : HasRanks initi
   read_offset_small o = let in_it = below_length history o.number (Invoke o.process o.op) o.invoked in omega (arith, in_it)
 
   -- a write of v in the order, with the rank m
-  record IsWritten (o : Operation history) (v m : ℕ) : Type 0 where
+  record IsPlacedWrite (o : Operation history) (v m : ℕ) : Type 0 where
     placed : HasPlace o m 0
     at : IsWriteAt o.number m v
 
@@ -397,15 +397,15 @@ module _ (initial : ℕ) (history : List (ℕ × Event)) (ranks : HasRanks initi
   rank_of_write : (o : Operation history) (v : ℕ) → o.op ≡ op.Write v → rank_at o.number ≡ given_rank o.number
   rank_of_write o v is = ap (rank_by o.number) (invoked_as o (op.Write v) is)
 
-  written : (o : Operation history) (v m : ℕ) → o.op ≡ op.Write v → rank_at o.number ≡ Some m → IsWritten o v m
-  written o v m is r = record {
+  placed_write : (o : Operation history) (v m : ℕ) → o.op ≡ op.Write v → rank_at o.number ≡ Some m → IsPlacedWrite o v m
+  placed_write o v m is r = record {
     placed = has_place o m 0 r (ap (offset_by o.number) (invoked_as o (op.Write v) is));
     at = write_at o.number o.process m v (invoked_as o (op.Write v) is) (sym (rank_of_write o v is) ∙ r);
   }
 
   -- a read of the order: its rank is that of the value which it gives, and not below those of all
   -- operations that had returned when it was invoked
-  record IsRead (o : Operation history) (n v m : ℕ) : Type 0 where
+  record IsPlacedRead (o : Operation history) (n v m : ℕ) : Type 0 where
     placed : HasPlace o m (suc o.number)
     low : (state o.number).top ≤ m
     value : (state n).values m ≡ Some v
@@ -414,11 +414,11 @@ module _ (initial : ℕ) (history : List (ℕ × Event)) (ranks : HasRanks initi
   rank_of_read : (o : Operation history) (n : ℕ) (e : Event) → o.op ≡ op.Read → EndsAt o n e → rank_at o.number ≡ rank_if_got (Some e) (given_rank n)
   rank_of_read o n e is ends =
       ap (rank_by o.number) (invoked_as o op.Read is)
-      ∙ scan_ends o.process (length history) (suc o.number) n e (let later = ends.later in omega (arith, later)) (let in_it = below_length history n e ends.there in omega (arith, in_it)) ends.there ends.own
+      ∙ return_rank_at_end o.process (length history) (suc o.number) n e (let later = ends.later in omega (arith, later)) (let in_it = below_length history n e ends.there in omega (arith, in_it)) ends.there ends.own
       (λ i other after before there. ends.first i other (omega (arith, after)) before there)
 
-  read : (o : Operation history) (n v : ℕ) → o.op ≡ op.Read → EndsAt o n (Got o.process v) → (m : ℕ) × IsRead o n v m
-  read o n v is ends = by (given_rank n) refl
+  placed_read : (o : Operation history) (n v : ℕ) → o.op ≡ op.Read → EndsAt o n (Got o.process v) → (m : ℕ) × IsPlacedRead o n v m
+  placed_read o n v is ends = by (given_rank n) refl
     where
       p : ℕ
       p = o.process
@@ -429,7 +429,7 @@ module _ (initial : ℕ) (history : List (ℕ × Event)) (ranks : HasRanks initi
       floor : (state n).floor o.process ≡ (state o.number).top
       floor = (own_kept o.process o.number n ends.later ends.first).1 ∙ ap (λ (r : Ranking). r.floor o.process) began.1 ∙ put_same o.process (state o.number).top (state o.number).floor
 
-      by : (g : Option ℕ) → given_rank n ≡ g → (m : ℕ) × IsRead o n v m
+      by : (g : Option ℕ) → given_rank n ≡ g → (m : ℕ) × IsPlacedRead o n v m
       by None none = absurd ((subst (λ g. TakesRank (state n) g (state (suc n)) (Got o.process v)) none (takes_rank n (Got o.process v) ends.there)).0)
       by (Some m) some =
           let done : TakesRank (state n) (Some m) (state (suc n)) (Got o.process v) = subst (λ g. TakesRank (state n) g (state (suc n)) (Got o.process v)) some (takes_rank n (Got o.process v) ends.there) in
@@ -452,17 +452,17 @@ module _ (initial : ℕ) (history : List (ℕ × Event)) (ranks : HasRanks initi
       ∙ (write_noted o.process v (state o.number) (given_rank o.number)).0 ∙ sym (rank_of_write o v is)
 
   -- an operation that returns in event n is in the order; its rank is at most the greatest after n
-  record IsReturned (o : Operation history) (n : ℕ) : Type 0 where
+  record IsPlacedReturn (o : Operation history) (n : ℕ) : Type 0 where
     rank : ℕ
     offset : ℕ
     placed : HasPlace o rank offset
     high : rank ≤ (state (suc n)).top
     early : offset ≤ suc o.number
 
-  returned_write : (o : Operation history) (n v : ℕ) → o.op ≡ op.Write v → EndsAt o n (Wrote o.process) → IsReturned o n
+  returned_write : (o : Operation history) (n v : ℕ) → o.op ≡ op.Write v → EndsAt o n (Wrote o.process) → IsPlacedReturn o n
   returned_write o n v is ends = by (given_rank n) refl
     where
-      by : (g : Option ℕ) → given_rank n ≡ g → IsReturned o n
+      by : (g : Option ℕ) → given_rank n ≡ g → IsPlacedReturn o n
       by None none = absurd ((subst (λ g. TakesRank (state n) g (state (suc n)) (Wrote o.process)) none (takes_rank n (Wrote o.process) ends.there)).0)
       by (Some m) some =
           let done : TakesRank (state n) (Some m) (state (suc n)) (Wrote o.process) = subst (λ g. TakesRank (state n) g (state (suc n)) (Wrote o.process)) some (takes_rank n (Wrote o.process) ends.there) in
@@ -470,18 +470,18 @@ module _ (initial : ℕ) (history : List (ℕ × Event)) (ranks : HasRanks initi
           record {
             rank = m;
             offset = 0;
-            placed = (written o v m is (sym (write_kept o v n (Wrote o.process) is ends) ∙ done.0)).placed;
+            placed = (placed_write o v m is (sym (write_kept o v n (Wrote o.process) is ends) ∙ done.0)).placed;
             high = omega (arith, top);
             early = omega arith;
           }
 
-  returned : (o : Operation history) (n : ℕ) (end : Event) → EndsAt o n end → is_return o.op end ≡ true → IsReturned o n
-  returned o n end ends h = by o.op refl end ends h
+  placed_return : (o : Operation history) (n : ℕ) (end : Event) → EndsAt o n end → is_return o.op end ≡ true → IsPlacedReturn o n
+  placed_return o n end ends h = by o.op refl end ends h
     where
-      by : (x : Op) → o.op ≡ x → (e : Event) → EndsAt o n e → is_return x e ≡ true → IsReturned o n
+      by : (x : Op) → o.op ≡ x → (e : Event) → EndsAt o n e → is_return x e ≡ true → IsPlacedReturn o n
       by (op.Write v) is (Wrote q) ends h = returned_write o n v is (subst (λ r. EndsAt o n (Wrote r)) (eqb-true q o.process ends.own) ends)
       by op.Read is (Got q v) ends h =
-          let r = read o n v is (subst (λ r. EndsAt o n (Got r v)) (eqb-true q o.process ends.own) ends) in
+          let r = placed_read o n v is (subst (λ r. EndsAt o n (Got r v)) (eqb-true q o.process ends.own) ends) in
           record { rank = r.0; offset = suc o.number; placed = r.1.placed; high = r.1.high; early = omega arith }
       by (op.Write v) is e ends h = absurd (true≢false (sym h))
       by op.Read is e ends h = absurd (true≢false (sym h))
@@ -495,7 +495,7 @@ module _ (initial : ℕ) (history : List (ℕ × Event)) (ranks : HasRanks initi
 
   returns_value_if_in_order : (o : Operation history) → o.op ≡ op.Read → order.has o.number ≡ true → ReturnsValue o
   returns_value_if_in_order o is h =
-      scan_found o (length history) (suc o.number) (omega arith) (λ i other after before there. let f : ⊥ = omega (arith, after, before) in absurd f)
+      returns_value_if_ranked o (length history) (suc o.number) (omega arith) (λ i other after before there. let f : ⊥ = omega (arith, after, before) in absurd f)
       (sym (ap (λ x. is_some (rank_by o.number x)) (invoked_as o op.Read is)) ∙ h)
 
   pending_not_in_order : (o : Operation history) → o.op ≡ op.Read → ((n v : ℕ) → ¬ EndsAt o n (Got o.process v)) → order.has o.number ≡ false
@@ -523,12 +523,12 @@ module _ (initial : ℕ) (history : List (ℕ × Event)) (ranks : HasRanks initi
       by : (x : Op) → o.op ≡ x → IsInOrder o
       by (op.Write v) is =
           let m = some_if_is_some (rank_at o.number) h in
-          let w = written o v m.0 is m.1 in
+          let w = placed_write o v m.0 is m.1 in
           let above = w.at.above in
           record { rank = m.0; offset = 0; placed = w.placed; low = omega (arith, above); has_offset = inl (refl, (v, w.at)) }
       by op.Read is =
           let g = returns_value_if_in_order o is h in
-          let r = read o g.0 g.1.0 is g.1.1 in
+          let r = placed_read o g.0 g.1.0 is g.1.1 in
           record { rank = r.0; offset = suc o.number; placed = r.1.placed; low = r.1.low; has_offset = inr refl }
 
   offset_small : (o : Operation history) (m s : ℕ) → HasOffset o m s → s < size
@@ -542,7 +542,7 @@ module _ (initial : ℕ) (history : List (ℕ × Event)) (ranks : HasRanks initi
 
   placed_in_time : (o x : Operation history) (n : ℕ) (end : Event) → EndsAt o n end → is_return o.op end ≡ true → n < x.number → order.has x.number ≡ true → order.place o.number < order.place x.number
   placed_in_time o x n end ends h late in_it =
-      let a = returned o n end ends h in
+      let a = placed_return o n end ends h in
       let b = is_in_order x in_it in
       let first_place = a.placed.place in
       let second_place = b.placed.place in
@@ -595,16 +595,16 @@ module _ (initial : ℕ) (history : List (ℕ × Event)) (ranks : HasRanks initi
       ]
     where
       m : ℕ
-      m = (read o n v is ends).0
+      m = (placed_read o n v is ends).0
 
-      r : IsRead o n v (read o n v is ends).0
-      r = (read o n v is ends).1
+      r : IsPlacedRead o n v (placed_read o n v is ends).0
+      r = (placed_read o n v is ends).1
 
       -- a write before the read's place has no greater rank
-      under : (other : Operation history) (u : ℕ) → IsWriteBefore order (order.place o.number) u other → (k : ℕ) × (IsWritten other u k × (k ≤ m))
+      under : (other : Operation history) (u : ℕ) → IsWriteBefore order (order.place o.number) u other → (k : ℕ) × (IsPlacedWrite other u k × (k ≤ m))
       under other u w =
           let k = some_if_is_some (rank_at other.number) w.in_it in
-          let wrote = written other u k.0 w.writes k.1 in (
+          let wrote = placed_write other u k.0 w.writes k.1 in (
             k.0,
             (
               wrote,
@@ -632,7 +632,7 @@ module _ (initial : ℕ) (history : List (ℕ × Event)) (ranks : HasRanks initi
       write : IsRankOfWrite m v → IsLastWrite history order (order.place o.number) v
       write w =
           let it : Operation history = record { number = w.0; process = w.1.0; op = op.Write v; invoked = w.1.1.0 } in
-          let wrote = written it v m refl (rank_of_write it v refl ∙ w.1.1.1) in
+          let wrote = placed_write it v m refl (rank_of_write it v refl ∙ w.1.1.1) in
           let first_place = wrote.placed.place in
           let second_place = r.placed.place in
           record {
@@ -648,7 +648,7 @@ module _ (initial : ℕ) (history : List (ℕ × Event)) (ranks : HasRanks initi
 pub ranks_linearize : (initial : ℕ) (history : List (ℕ × Event)) → HasRanks initial history → HasLinearization initial history
 ranks_linearize initial history ranks = record {
   order = order initial history ranks;
-  returned = λ o n end ends h. ap is_some (returned initial history ranks o n end ends h).placed.ranked;
+  returned = λ o n end ends h. ap is_some (placed_return initial history ranks o n end ends h).placed.ranked;
   refused = λ o n layer ends. refused_not_in_order initial history ranks o _ layer ends;
   unreturned = λ o is none. pending_not_in_order initial history ranks o is none;
   one_each = λ o x h k same. one_at_each_place initial history ranks o x h k same;

@@ -2,7 +2,7 @@
 use Rattle.std.proofs.Common.{◌≡◌, ◌∙◌, ℕ, ◌+◌, ◌<◌, ◌≤◌, List, [], ◌∷◌, ◌++◌, length, get_or, drop, refl, sym, ap, append_assoc}
 use Rattle.std.specs.List.{flat_map}
 use Rattle.std.proofs.lemmas.List.{append-nil, drop_all, drop_more}
-use Rattle.pages.specs.Numbered.{numbered_lines}
+use Rattle.pages.specs.Lines.{numbered_lines}
 
 -- If the text so far and the lines not yet pushed are the whole text, then this also holds after
 -- one more line; after all lines, the text so far is the whole text.

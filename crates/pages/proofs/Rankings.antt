@@ -100,6 +100,7 @@ same_op p q o x e = cc e
 got_is_not_invocation : (p q v : ℕ) (o : Op) → Some (Got p v) ≡ Some (Invoke q o) → ⊥
 got_is_not_invocation p q v o e = cc e
 
+-- an invocation leaves the greatest rank as it is, and notes it for the process
 invoked_top : (r : Ranking) (p : ℕ) (o : Op) (g : Option ℕ) → (after_rank r (Invoke p o) g).top ≡ r.top
 invoked_top r p (op.Write v) (Some n) = refl
 invoked_top r p (op.Write v) None = refl

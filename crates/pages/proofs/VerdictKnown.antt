@@ -421,13 +421,15 @@ verdicts-append k (e ∷ xs) ys =
         ∙ sym (append_assoc (verdict_of_event k e.0 e.1) (verdicts_from (after k e.1) (accepted_of xs ys)) (verdicts_from (known (after k e.1) xs ys) (accepted ys)))
     by false h = h
 
-verdict_count : (k : Known) (i : ℕ) (e : Event) (n : ℕ) → length (verdict_of_event k i e) + n ≡ cond (is_got e) (1 + n) n
-verdict_count k i (Got p v) n = omega arith
-verdict_count k i e n = omega arith
+-- an event gives one verdict if it is the return of a read, else none
+one_verdict_if_got : (k : Known) (i : ℕ) (e : Event) (n : ℕ) → length (verdict_of_event k i e) + n ≡ cond (is_got e) (1 + n) n
+one_verdict_if_got k i (Got p v) n = omega arith
+one_verdict_if_got k i e n = omega arith
 
-count_head : (b : Bool) (e : ℕ × Event) (es : List (ℕ × Event)) → cond b (1 + length es) (length es) ≡ length (cond b (e ∷ es) es)
-count_head true e es = omega arith
-count_head false e es = refl
+-- a list is longer by one with an item in front of it, which it has if b is true
+length-cons_if : (b : Bool) (e : ℕ × Event) (es : List (ℕ × Event)) → cond b (1 + length es) (length es) ≡ length (cond b (e ∷ es) es)
+length-cons_if true e es = omega arith
+length-cons_if false e es = refl
 
 -- there is one verdict for each read that returns
 length-verdicts_from : (k : Known) (xs : List (ℕ × Event)) → length (verdicts_from k xs) ≡ returned_reads xs
@@ -435,29 +437,29 @@ length-verdicts_from k [] = refl
 length-verdicts_from k (e ∷ es) =
     length-append (verdict_of_event k e.0 e.1) (verdicts_from (after k e.1) es)
     ∙ ap (λ n. length (verdict_of_event k e.0 e.1) + n) (length-verdicts_from (after k e.1) es)
-    ∙ verdict_count k e.0 e.1 (returned_reads es)
-    ∙ count_head (is_got e.1) e (filter (λ x. is_got x.1) es)
+    ∙ one_verdict_if_got k e.0 e.1 (returned_reads es)
+    ∙ length-cons_if (is_got e.1) e (filter (λ x. is_got x.1) es)
 
--- the return of a read always counts
-reads_count : (e : Event) (refused : Bool) → counts e refused ≡ false → is_got e ≡ false
-reads_count (Got p v) refused c = absurd (true≢false c)
-reads_count e refused c = refl
+-- an event that doesn't count isn't the return of a read
+uncounted_is_not_got : (e : Event) (refused : Bool) → counts e refused ≡ false → is_got e ≡ false
+uncounted_is_not_got (Got p v) refused c = absurd (true≢false c)
+uncounted_is_not_got e refused c = refl
 
 reads_head : (counted : Bool) (e : ℕ × Event) (xs ys : List (ℕ × Event)) → (counted ≡ false → is_got e.1 ≡ false) → returned_reads xs ≡ returned_reads ys
     → returned_reads (if counted then e ∷ xs else xs) ≡ returned_reads (e ∷ ys)
 reads_head true e xs ys n h =
-    sym (count_head (is_got e.1) e (filter (λ x. is_got x.1) xs))
+    sym (length-cons_if (is_got e.1) e (filter (λ x. is_got x.1) xs))
     ∙ ap (λ m. cond (is_got e.1) (1 + m) m) h
-    ∙ count_head (is_got e.1) e (filter (λ x. is_got x.1) ys)
+    ∙ length-cons_if (is_got e.1) e (filter (λ x. is_got x.1) ys)
 reads_head false e xs ys n h = h ∙ ap (λ b. length (cond b (e ∷ filter (λ x. is_got x.1) ys) (filter (λ x. is_got x.1) ys))) (sym (n refl))
 
 reads_accepted_of : (xs later : List (ℕ × Event)) → returned_reads (accepted_of xs later) ≡ returned_reads xs
 reads_accepted_of [] later = refl
-reads_accepted_of (e ∷ es) later = reads_head (counts e.1 (is_refused (es ++ later))) e (accepted_of es later) es (reads_count e.1 (is_refused (es ++ later))) (reads_accepted_of es later)
+reads_accepted_of (e ∷ es) later = reads_head (counts e.1 (is_refused (es ++ later))) e (accepted_of es later) es (uncounted_is_not_got e.1 (is_refused (es ++ later))) (reads_accepted_of es later)
 
 reads_accepted : (xs : List (ℕ × Event)) → returned_reads (accepted xs) ≡ returned_reads xs
 reads_accepted [] = refl
-reads_accepted (e ∷ es) = reads_head (counts e.1 (is_refused es)) e (accepted es) es (reads_count e.1 (is_refused es)) (reads_accepted es)
+reads_accepted (e ∷ es) = reads_head (counts e.1 (is_refused es)) e (accepted es) es (uncounted_is_not_got e.1 (is_refused es)) (reads_accepted es)
 
 pub length-verdicts_of : (k : Known) (xs later : List (ℕ × Event)) → length (verdicts_from k (accepted_of xs later)) ≡ returned_reads xs
 length-verdicts_of k xs later = length-verdicts_from k (accepted_of xs later) ∙ reads_accepted_of xs later

@@ -138,6 +138,7 @@ refusal_head i (Void p reason) es r h later = refusal_after (i, Void p reason) e
 refusal_head i (Stop p) es r h later = refusal_after (i, Stop p) es refl (later h)
 refusal_head i (Chosen p bit v) es r h later = refusal_after (i, Chosen p bit v) es refl (later h)
 
+-- if `is_refused` finds that these events refuse the write in progress, its refusal is among them
 refusal_of : (es : List (ℕ × Event)) → HaveRoles es → is_refused es ≡ true → RefusedIn es
 refusal_of [] r h = absurd (true≢false (sym h))
 refusal_of (e ∷ es) r h =
@@ -169,9 +170,9 @@ not_refused since later quiet roles none = by (is_refused later) refl
         }))
 
 -- a write that isn't refused is in progress after these events, or returns in them
-pub write_ends : (v : ℕ) (xs later before : List (ℕ × Event)) (step : ℕ) (since : List (ℕ × Event)) → IsOneWriterHistory (xs ++ later) → xs ≡ before ++ (step, Invoke 0 (op.Write v)) ∷ since
+pub in_progress_or_returns : (v : ℕ) (xs later before : List (ℕ × Event)) (step : ℕ) (since : List (ℕ × Event)) → IsOneWriterHistory (xs ++ later) → xs ≡ before ++ (step, Invoke 0 (op.Write v)) ∷ since
     → ((layer : Layer) → ¬ EndsBy 0 (Refused 0 layer) (since ++ later)) → (IsQuiet 0 since × (is_refused later ≡ false)) ⊎ EndsBy 0 (Wrote 0) since
-write_ends v xs later before step since whole split unrefused =
+in_progress_or_returns v xs later before step since whole split unrefused =
     let h : IsOneWriterHistory xs = history-left xs later whole in
     let x : ℕ × Event = (step, Invoke 0 (op.Write v)) in
     elim (first_boundary 0 since) [
@@ -194,10 +195,11 @@ write_ends v xs later before step since whole split unrefused =
           inr (record { before = f.before; step = f.step; later = f.since; split = f.split ∙ ap (λ y. f.before ++ (f.step, y) ∷ f.since) returns; quiet = f.quiet })
     ]
 
+-- a write that overlaps a read, in Lamport's words, crosses it (`Crosses`); and back
 pub crossing_of_words : (v : ℕ) (earlier during later : List (ℕ × Event)) → IsOneWriterHistory ((earlier ++ during) ++ later) → IsOverlapping v earlier during later → Crosses v earlier during later
 crossing_of_words v earlier during later whole o =
     let x : ℕ × Event = (o.step, Invoke 0 (op.Write v)) in
-    elim (write_ends v (earlier ++ during) later o.before o.step o.since whole o.split o.unrefused) [
+    elim (in_progress_or_returns v (earlier ++ during) later o.before o.step o.since whole o.split o.unrefused) [
       | inl w ↦ inl (record { earlier = o.before; step = o.step; since = o.since; split = o.split; quiet = w.0 }, w.1)
       | inr e ↦
           let upto = o.before ++ x ∷ e.before in

@@ -10,7 +10,7 @@ use Rattle.frames.specs.declared.types.Event.TheVariants.{Got, Wrote}
 use Rattle.frames.specs.declared.verdict.Reading.{Reading}
 use Rattle.frames.specs.declared.verdict.Verdict.TheVariants.{Fresh, Overlap, Stray}
 use Rattle.frames.specs.correctness.Verdicts.{Known, accepted, initially, invoked_now, returning, after, reading, is_value, has_returned, overlaps, judged, verdicts_from, verdicts}
-use Rattle.pages.specs.VerdictWords.{InProgress, has_role, IsOneWriterHistory, ReturnedRead, during, afterwards, IsFresh, MatchVerdict, IsVerdictOn, AreJudged}
+use Rattle.pages.specs.VerdictWords.{InProgress, has_role, IsOneWriterHistory, ReturnedRead, during, afterwards, IsFresh, VerdictSays, IsVerdictOn, AreJudged}
 use Rattle.pages.proofs.VerdictOverlaps.{ReturnsIn, Crosses, crossing_of_words, words_of_crossing}
 use Rattle.pages.proofs.VerdictKnown.{HaveRoles, roles-left, roles-right, history-left, known, known-append, writing_of_progress, progress_of_writing, known_fresh, returned_among, ReturnedAmong, among_of_returned, EndsWrites, last_return, reading_of_progress, accepted_of, verdicts-append, length-verdicts_of, length-verdicts}
 
@@ -122,14 +122,14 @@ module _ (initial : ℕ) where
             }
 
 -- a verdict by two tests says what they decide
-verdict_of_tests : (a b : Bool) (A B : Type 0) → (a ≡ true → A) → (A → a ≡ true) → (b ≡ true → B) → (B → b ≡ true) → MatchVerdict (if a then Fresh else (if b then Overlap else Stray)) A B
+verdict_of_tests : (a b : Bool) (A B : Type 0) → (a ≡ true → A) → (A → a ≡ true) → (b ≡ true → B) → (B → b ≡ true) → VerdictSays (if a then Fresh else (if b then Overlap else Stray)) A B
 verdict_of_tests true b A B f g h k = f refl
 verdict_of_tests false true A B f g h k = (λ x. true≢false (sym (g x)), h refl)
 verdict_of_tests false false A B f g h k = (λ x. true≢false (sym (g x)), λ y. true≢false (sym (k y)))
 
 -- what is known when a read returns, from the events before its return
-abbrev pub then_known : {history : List (ℕ × Event)} → ℕ → ReturnedRead history → Known
-then_known initial r = known (initially initial) (r.earlier ++ during r) (afterwards r)
+abbrev pub known_when_returned : {history : List (ℕ × Event)} → ℕ → ReturnedRead history → Known
+known_when_returned initial r = known (initially initial) (r.earlier ++ during r) (afterwards r)
 
 -- the read that returns by the event (i, Got p v)
 abbrev pub read_of : (history xs : List (ℕ × Event)) (i p v : ℕ) (ys : List (ℕ × Event)) → history ≡ xs ++ (i, Got p v) ∷ ys → InProgress p op.Read xs → ReturnedRead history
@@ -146,11 +146,11 @@ read_of history xs i p v ys s w = record {
 }
 
 -- the verdict that `Known` gives when a read returns is the right one
-pub verdict_words : (initial : ℕ) (history : List (ℕ × Event)) → IsOneWriterHistory history → (r : ReturnedRead history) → IsVerdictOn initial r (judged (then_known initial r) r.process r.value)
+pub verdict_words : (initial : ℕ) (history : List (ℕ × Event)) → IsOneWriterHistory history → (r : ReturnedRead history) → IsVerdictOn initial r (judged (known_when_returned initial r) r.process r.value)
 verdict_words initial history h r =
     let later = afterwards r in
     let upto = known (initially initial) r.earlier (during r ++ later) in
-    let all = then_known initial r in
+    let all = known_when_returned initial r in
     let full : IsOneWriterHistory ((r.earlier ++ during r) ++ later) = subst IsOneWriterHistory r.split h in
     let whole : IsOneWriterHistory (r.earlier ++ during r) = history-left (r.earlier ++ during r) later full in
     let first : IsOneWriterHistory r.earlier = history-left r.earlier (during r) whole in
@@ -166,7 +166,7 @@ pub judged_in_words : (initial : ℕ) (history : List (ℕ × Event)) → IsOneW
 judged_in_words initial history h = record {
   each = λ r.
       let before = r.earlier ++ during r in
-      let all = then_known initial r in
+      let all = known_when_returned initial r in
       record {
         verdict = judged all r.process r.value;
         on_it = verdict_words initial history h r;

@@ -1,4 +1,4 @@
-pub mod Numbered
+pub mod Lines
 pub mod Breaks
 pub mod page
 pub mod Pages

@@ -68,7 +68,7 @@ pub fn config_page<R: Register>(
         ConfigKind::Bits => Ok(Page::Bits(bits_page(alloc, head, config)?)),
         ConfigKind::Pending => Ok(Page::Pending(PendingPage {
             head: *head,
-            processes: pending::pending(alloc, config)?,
+            processes: pending::pending_statuses(alloc, config)?,
         })),
     }
 }

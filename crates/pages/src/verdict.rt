@@ -8,7 +8,7 @@ ghost use Rattle.frames.specs.correctness.Regularity.{IsAtomic, IsRegular, IsSaf
 ghost use Rattle.frames.specs.correctness.Verdicts as spec;
 ghost use Rattle.pages.specs.LawWords.{IsAtomicInWords, IsRegularInWords, IsSafeInWords};
 ghost use Rattle.pages.specs.Linearizability.{IsLinearizable};
-ghost use Rattle.pages.specs.VerdictWords.{IsOneWriterHistory, AreJudged, RecordsHistories, RecordsJudged, RecordsWellFormed};
+ghost use Rattle.pages.specs.VerdictWords.{IsOneWriterHistory, AreJudged, RecordsOneWriter, RecordsJudged, RecordsWellFormed};
 
 use frames::register::Register;
 use frames::types::{Event, Op};
@@ -262,7 +262,7 @@ pub fn verdicts_in_words()
 pub fn recorded_in_words<R: Register>(register: &R)
     ensures well_formed { RecordsWellFormed (R.behaviour register.now) }
     ensures histories { HasOneWriter (R.behaviour register.now)
-        → RecordsHistories (R.behaviour register.now) }
+        → RecordsOneWriter (R.behaviour register.now) }
     ensures judged { HasOneWriter (R.behaviour register.now)
         → RecordsJudged (R.behaviour register.now) }
 {}

@@ -160,6 +160,7 @@ fn refusals(rt: HostRuntime) -> Result<(), Fail> {
     Ok(())
 }
 
+/// The help.
 const HELP: &str = "\
 towerbench 1.1.0
 

@@ -3,7 +3,7 @@
 
 ghost use Rattle.std.specs.Prelude.{◌≡◌, ◌++◌, OnOk, codes};
 
-use conversation::answering::Answers;
+use conversation::answers::Answers;
 use conversation::converse::converse;
 use conversation::fault::StreamFault;
 use conversation::taken::Taken;

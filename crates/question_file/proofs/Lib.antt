@@ -1,3 +1,3 @@
-pub mod Operations
-pub mod ReadLines
-pub mod NoLists
+pub mod OperationLoop
+pub mod LineLoop
+pub mod ListsOfOperations

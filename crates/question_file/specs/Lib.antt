@@ -1,5 +1,5 @@
 pub mod Faults
 pub mod Asked
-pub mod Said
+pub mod Parsed
 pub mod Lines
 pub mod Reading

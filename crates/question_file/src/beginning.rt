@@ -3,9 +3,9 @@
 ghost use Rattle.std.specs.Prelude.{◌≡◌, ◌≤◌, true, IfOk};
 ghost use Rattle.tower_file.specs.Towers.{is_lawful_tower};
 ghost use Rattle.question_file.specs.Asked as spec;
-ghost use Rattle.question_file.specs.Said.{as_asked};
+ghost use Rattle.question_file.specs.Parsed.{as_asked};
 
-use crate::file::{QuestionFile, STATES_IF_LEFT_OUT};
+use crate::file::{DEFAULT_MOST_STATES, QuestionFile};
 use answers::question::Question;
 use frames::roles::HasRoles;
 use frames::types::Op;
@@ -37,7 +37,7 @@ impl QuestionFile {
         ensures some { 1 ≤ result }
         ensures few { result ≤ 16777216 }
     {
-        self.most.unwrap_or(STATES_IF_LEFT_OUT)
+        self.most.unwrap_or(DEFAULT_MOST_STATES)
     }
 }
 

@@ -8,7 +8,7 @@ use answers::question::Question;
 use tower_file::TowerSpec;
 
 /// The most states to search if the file doesn't give their number.
-pub const STATES_IF_LEFT_OUT: u32 = 1 << 20;
+pub const DEFAULT_MOST_STATES: u32 = 1 << 20;
 
 /// What a question file says: a tower, a question about its register, and the most states to search
 /// if the file says how many.

@@ -21,5 +21,5 @@ mod line;
 mod reading;
 
 pub use fault::{QuestionFault, QuestionFaultKind};
-pub use file::{QuestionFile, STATES_IF_LEFT_OUT};
+pub use file::{DEFAULT_MOST_STATES, QuestionFile};
 pub use reading::parse_question;

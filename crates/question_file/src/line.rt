@@ -5,7 +5,7 @@ ghost use Rattle.std.specs.List.{list_all, list_any};
 ghost use Rattle.question_file.specs.declared.fault.QuestionFaultKind.TheVariants.{BadProcess, BadAfter, BadStop, BadMost};
 ghost use Rattle.question_file.specs.Faults.{out_of_memory_kind};
 ghost use Rattle.question_file.specs.Asked.{lists_of};
-ghost use Rattle.question_file.specs.Said.{as_asked};
+ghost use Rattle.question_file.specs.Parsed.{as_asked};
 ghost use Rattle.question_file.specs.Lines as spec;
 ghost use Rattle.tower_file.specs.Towers.{is_lawful_tower, suits};
 ghost use Rattle.words.specs.Words.{words, next, after_next};
@@ -13,7 +13,7 @@ ghost use Rattle.words.specs.Words.{words, next, after_next};
 use crate::fault::{OUT_OF_MEMORY, QuestionFaultKind};
 use crate::file::QuestionFile;
 use answers::find::MOST_STATES;
-use answers::question::{After, Nth};
+use answers::question::{After, NthOp};
 use frames::roles::HasRoles;
 use frames::types::Op;
 use std::alloc::{AllocError, Global};
@@ -63,7 +63,7 @@ fn next_operation(words: &mut Parts<'_>) -> Option<Op>
 }
 
 /// The operations that the words spell; `None` if they spell none.
-#[tactic(auto, using(crate::proofs::Operations::operation_read, crate::proofs::Operations::no_operation_read, crate::proofs::Operations::no_words_left, crate::proofs::Operations::fewer_words))]
+#[tactic(auto, using(crate::proofs::OperationLoop::operation_read, crate::proofs::OperationLoop::no_operation_read, crate::proofs::OperationLoop::no_words_left, crate::proofs::OperationLoop::fewer_words))]
 fn operations(alloc: Global, words: &mut Parts<'_>) -> Result<Option<Vec<Op>>, AllocError>
     ensures some { IfOk result (λ list. IfSome list (λ list.
         spec.operations_from [] words.old ≡ Some list.items)) }
@@ -111,7 +111,7 @@ impl QuestionFile {
     }
 
     /// Gives process `p` these operations in place of its own.
-    #[tactic(auto, using(crate::proofs::NoLists::put_list))]
+    #[tactic(auto, using(crate::proofs::ListsOfOperations::put_list))]
     fn put(&mut self, p: u32, list: Vec<Op>)
         requires { p < length self.old.question.operations.items }
         ensures { as_asked self.new ≡ spec.with_list (as_asked self.old) p list.items }
@@ -156,11 +156,11 @@ impl QuestionFile {
             return Err(QuestionFaultKind::BadAfter);
         }
         let after = After {
-            later: Nth {
+            later: NthOp {
                 process: p,
                 index: i,
             },
-            earlier: Nth {
+            earlier: NthOp {
                 process: q,
                 index: j,
             },

@@ -6,7 +6,7 @@ ghost use Rattle.std.specs.Option.{option_map};
 ghost use Rattle.tower_file.specs.Reading.{is_file_byte};
 ghost use Rattle.words.specs.Words.{lines, is_end};
 ghost use Rattle.question_file.specs.Faults.{out_of_memory_kind};
-ghost use Rattle.question_file.specs.Said.{as_asked};
+ghost use Rattle.question_file.specs.Parsed.{as_asked};
 ghost use Rattle.question_file.specs.Reading as spec;
 
 use crate::fault::{OUT_OF_MEMORY, QuestionFault, QuestionFaultKind};
@@ -26,7 +26,7 @@ fn is_comment(line: &[u8]) -> bool
     }
 }
 
-/// Whether a file may have this byte.
+/// Whether a file may have this byte, which then a tower file may have too.
 fn is_file_byte(b: u8) -> bool
     ensures { result ≡ is_file_byte b }
 {
@@ -34,7 +34,7 @@ fn is_file_byte(b: u8) -> bool
 }
 
 /// Whether each byte of a line may be in a file.
-fn is_ascii(line: &[u8]) -> bool
+fn are_file_bytes(line: &[u8]) -> bool
     ensures { result ≡ list_all is_file_byte line.now }
 {
     line.iter().all(|b| is_file_byte(*b))
@@ -91,7 +91,7 @@ fn with_line(
     ensures fault { IfErr result (λ k. k ≢ out_of_memory_kind
         → spec.with_line (option_map as_asked file) line.now ≡ Err k) }
 {
-    if !is_ascii(line) {
+    if !are_file_bytes(line) {
         return Err(QuestionFaultKind::Shared(FaultKind::NotAscii));
     }
     if is_comment(line) {
@@ -103,7 +103,7 @@ fn with_line(
     }
 }
 
-/// The lines of the bytes. There are at most 2^63 of them, so their numbers fit in 64 bits.
+/// The lines of the bytes: at least one, and at most 2^63, so that their numbers fit in 64 bits.
 fn lines_of(bytes: &[u8]) -> Lines<'_>
     ensures lines { result ≡ lines bytes.now }
     ensures few { length result ≤ 2 ^ 63 }
@@ -115,7 +115,7 @@ fn lines_of(bytes: &[u8]) -> Lines<'_>
 
 /// What the bytes of a question file say. If they have a fault, the first one; if memory runs out
 /// before it is found, Memory, on the line that was being read.
-#[tactic(auto, using(crate::proofs::ReadLines::line_said, crate::proofs::ReadLines::line_faulty, crate::proofs::ReadLines::at_end, crate::proofs::ReadLines::one_line_less))]
+#[tactic(auto, using(crate::proofs::LineLoop::line_said, crate::proofs::LineLoop::line_faulty, crate::proofs::LineLoop::at_end, crate::proofs::LineLoop::one_line_less))]
 pub fn parse_question(alloc: Global, bytes: &[u8]) -> Result<QuestionFile, QuestionFault>
     ensures read { IfOk result (λ file. spec.question_reading bytes.now ≡ Ok (as_asked file)) }
     ensures fault { IfErr result (λ e. e.kind ≢ out_of_memory_kind

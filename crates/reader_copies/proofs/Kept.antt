@@ -49,14 +49,14 @@ pub record Idle (m : ℕ) (u : Seen) (parts : ℕ → Seen) : Type 0 where
   pub quiet : (k : ℕ) → k < m → (parts k).writing ≡ None
 
 -- what each task of the writer says of the register and of the copies
-abbrev pub CopierAt : ℕ → CopiesTask → Seen → (ℕ → Seen) → Type 0
-CopierAt m (Writing v r) u parts = WritesCopy m r v u parts
-CopierAt m (Reading r) u parts = ⊥
+abbrev pub WriterIn : ℕ → CopiesTask → Seen → (ℕ → Seen) → Type 0
+WriterIn m (Writing v r) u parts = WritesCopy m r v u parts
+WriterIn m (Reading r) u parts = ⊥
 
 -- what the writer's task says; if it has none, all copies are idle and hold the value written last
-abbrev pub CopierSays : ℕ → Option (TaskInProgress CopiesTask) → Seen → (ℕ → Seen) → Type 0
-CopierSays m None u parts = Idle m u parts
-CopierSays m (Some n) u parts = CopierAt m n.task u parts
+abbrev pub WriterSays : ℕ → Option (TaskInProgress CopiesTask) → Seen → (ℕ → Seen) → Type 0
+WriterSays m None u parts = Idle m u parts
+WriterSays m (Some n) u parts = WriterIn m n.task u parts
 
 -- if a reader's last read overlaps no write, it overlaps no write of the reader's copy, the fresh
 -- value is the same on both, and no write is in progress
@@ -66,8 +66,9 @@ AloneReadsAgree m u parts = (r : ℕ) → 1 ≤ r → r ≤ m → u.overlaps r �
 -- the invariant: reads that no write overlaps, and what the writer's task says
 pub record CopiesInv (m : ℕ) (u : Seen) (j : View CopiesTask) : Type 0 where
   pub alone : AloneReadsAgree m u j.parts
-  pub copier : CopierSays m (j.tasks 0) u j.parts
+  pub writer : WriterSays m (j.tasks 0) u j.parts
 
+-- reads of copies that overlap no write are fresh, and the invariant holds
 abbrev pub copies_watch : ℕ → Watch CopiesTask Seen
 copies_watch m = record { Good = IsFreshAlone; Inv = CopiesInv m }
 
@@ -80,21 +81,21 @@ agree_while_writing m v u z parts to e h o r lo hi k =
     absurd f
 
 -- while no write is in progress, no copy is being written, and all hold the value written last
-writer_idle : (m : ℕ) (task : Option (TaskInProgress CopiesTask)) (u : Seen) (parts : ℕ → Seen) → CopierSays m task u parts → u.writing ≡ None → Idle m u parts
+writer_idle : (m : ℕ) (task : Option (TaskInProgress CopiesTask)) (u : Seen) (parts : ℕ → Seen) → WriterSays m task u parts → u.writing ≡ None → Idle m u parts
 writer_idle m None u parts h e = h
 writer_idle m (Some n) u parts h e = at n.task h
   where
-    at : (task : CopiesTask) → CopierAt m task u parts → Idle m u parts
+    at : (task : CopiesTask) → WriterIn m task u parts → Idle m u parts
     at (Writing v r) h = let q : u.writing ≡ Some v = h.writing in let f : ⊥ = cc in absurd f
     at (Reading r) h = absurd h
 
 -- what the writer's task says depends only on the values written last and being written
-copier_same : (m : ℕ) (task : Option (TaskInProgress CopiesTask)) (u z : Seen) (parts to : ℕ → Seen) → u.last ≡ z.last → u.writing ≡ z.writing → ((k : ℕ) → (parts k).last ≡ (to k).last) → ((k : ℕ) → (parts k).writing ≡ (to k).writing)
-    → CopierSays m task u parts → CopierSays m task z to
-copier_same m None u z parts to ul uw l w h = record { writing = sym uw ∙ h.writing; last = λ k lk. sym (l k) ∙ h.last k lk ∙ ul; quiet = λ k lk. sym (w k) ∙ h.quiet k lk }
-copier_same m (Some n) u z parts to ul uw l w h = at n.task h
+writer_says_same : (m : ℕ) (task : Option (TaskInProgress CopiesTask)) (u z : Seen) (parts to : ℕ → Seen) → u.last ≡ z.last → u.writing ≡ z.writing → ((k : ℕ) → (parts k).last ≡ (to k).last) → ((k : ℕ) → (parts k).writing ≡ (to k).writing)
+    → WriterSays m task u parts → WriterSays m task z to
+writer_says_same m None u z parts to ul uw l w h = record { writing = sym uw ∙ h.writing; last = λ k lk. sym (l k) ∙ h.last k lk ∙ ul; quiet = λ k lk. sym (w k) ∙ h.quiet k lk }
+writer_says_same m (Some n) u z parts to ul uw l w h = at n.task h
   where
-    at : (task : CopiesTask) → CopierAt m task u parts → CopierAt m task z to
+    at : (task : CopiesTask) → WriterIn m task u parts → WriterIn m task z to
     at (Writing v r) h = record { writing = sym uw ∙ h.writing; here = sym (w (r - 1)) ∙ h.here; last = λ k lk. sym (l k) ∙ h.last k lk; quiet = λ k lk ne. sym (w k) ∙ h.quiet k lk ne }
     at (Reading r) h = h
 
@@ -104,14 +105,15 @@ copies_user_of k zero = zero
 copies_user_of k (suc q) = suc k
 
 module _ (m values : ℕ) where
-  abbrev t : Table CopiesTask
-  t = copies_table m values
+  abbrev table : Table CopiesTask
+  table = copies_table m values
 
-  abbrev w : Watch CopiesTask Seen
-  w = copies_watch m
+  abbrev watch : Watch CopiesTask Seen
+  watch = copies_watch m
 
+  -- a write of v keeps the invariant from the copy of reader r on, if it has these copies left
   runs_writes : (copies_left r v p : ℕ) (op : Op) (Out : Option Event → Seen → Type 0) (u : Seen) (j : View CopiesTask) → p ≡ 0 → 1 ≤ r → r + copies_left ≡ m + 1 → WriteReached m r v u j.parts → AloneReadsAgree m u j.parts
-      → Out None u → Out (Some (Wrote p)) (sees (Some (Wrote p)) u) → Runs t w p op Out (write_from v r copies_left) j
+      → Out None u → Out (Some (Wrote p)) (sees (Some (Wrote p)) u) → Runs table watch p op Out (write_from v r copies_left) j
   runs_writes zero r v p op Out u j zp lo room h a on oe =
       let z : Seen = sees (Some (Wrote p)) u in (
         z,
@@ -119,7 +121,7 @@ module _ (m values : ℕ) where
           oe,
           record {
             alone = agree_while_writing m v u z j.parts j.parts h.writing a (λ r. refl);
-            copier = subst (λ y. CopierSays m y z j.parts) (sym (put_zero p None j.tasks zp)) (record {
+            writer = subst (λ y. WriterSays m y z j.parts) (sym (put_zero p None j.tasks zp)) (record {
               writing = refl;
               last = λ k lk. h.last k (omega (arith, lk, room)) ∙ sym (ap (λ o. now_last o u.last) h.writing);
               quiet = h.quiet;
@@ -138,7 +140,7 @@ module _ (m values : ℕ) where
             on,
             record {
               alone = agree_while_writing m v u u j.parts (put i s j.parts) h.writing a (λ r. refl);
-              copier = subst (λ y. CopierSays m y u (put i s j.parts)) (sym (put_zero p n j.tasks zp)) (record {
+              writer = subst (λ y. WriterSays m y u (put i s j.parts)) (sym (put_zero p n j.tasks zp)) (record {
                 writing = h.writing;
                 here = ap (λ x. x.writing) (put_same i s j.parts);
                 last = λ k lk. ap (λ x. x.last) (put_other i k s j.parts (λ q. omega (arith, q, lk, lo))) ∙ h.last k lk;
@@ -147,7 +149,7 @@ module _ (m values : ℕ) where
             },
           ),
         ),
-        λ o ans pass good. elim o as (λ o. Answers values (Write v) o → IsNotSpent o → Runs t w p op Out (write_from v (r + 1) copies_left) (record j { parts = put i (sees (Some (end_event 0 o)) s) j.parts })) [
+        λ o ans pass good. elim o as (λ o. Answers values (Write v) o → IsNotSpent o → Runs table watch p op Out (write_from v (r + 1) copies_left) (record j { parts = put i (sees (Some (end_event 0 o)) s) j.parts })) [
           | Value x ↦ λ ans pass. absurd ans
           | Written ↦ λ ans pass. runs_writes copies_left (r + 1) v p op Out u (record j { parts = put i e j.parts }) zp (omega (arith, lo)) (omega (arith, room))
               (record {
@@ -159,10 +161,11 @@ module _ (m values : ℕ) where
         ] ans pass,
       )
 
-  begin_write : (u : Seen) (j : View CopiesTask) (p v : ℕ) → CopiesInv m u j → j.tasks p ≡ None → p ≡ 0
-      → Runs t w p (Write v) (λ e. IsGoodStep IsFreshAlone u (in_order (Some (Invoke p (Write v))) e)) (write_from v 1 m) j
-  begin_write u j p v h free zp =
-      let idle : Idle m u j.parts = subst (λ y. CopierSays m y u j.parts) (sym (ap j.tasks zp) ∙ free) h.copier in
+  -- a write from its invocation on keeps the invariant
+  begins_write : (u : Seen) (j : View CopiesTask) (p v : ℕ) → CopiesInv m u j → j.tasks p ≡ None → p ≡ 0
+      → Runs table watch p (Write v) (λ e. IsGoodStep IsFreshAlone u (in_order (Some (Invoke p (Write v))) e)) (write_from v 1 m) j
+  begins_write u j p v h free zp =
+      let idle : Idle m u j.parts = subst (λ y. WriterSays m y u j.parts) (sym (ap j.tasks zp) ∙ free) h.writer in
       let z : Seen = sees (Some (Invoke p (Write v))) u in
       runs_writes m 1 v p (Write v) (λ e. IsGoodStep IsFreshAlone u (in_order (Some (Invoke p (Write v))) e)) z j zp (omega arith) (omega arith)
       (record { writing = refl; last = λ k lk. (let f : ⊥ = omega (arith, lk) in absurd f); quiet = idle.quiet })
@@ -177,9 +180,10 @@ module _ (m values : ℕ) where
       let f = a o in
       is_fresh (record { reader = r; value = x; fresh = u.fresh r; overlaps = u.overlaps r }) (fresh_value y (g f.0) ∙ f.1.0)
 
-  begin_read : (u : Seen) (j : View CopiesTask) (p : ℕ) → CopiesInv m u j → 1 ≤ p → p ≤ m
-      → Runs t w p Read (λ e. IsGoodStep IsFreshAlone u (in_order (Some (Invoke p Read)) e)) (copies_program m p Read) j
-  begin_read u j p h lo hi =
+  -- a read from its invocation on keeps the invariant
+  begins_read : (u : Seen) (j : View CopiesTask) (p : ℕ) → CopiesInv m u j → 1 ≤ p → p ≤ m
+      → Runs table watch p Read (λ e. IsGoodStep IsFreshAlone u (in_order (Some (Invoke p Read)) e)) (copies_program m p Read) j
+  begins_read u j p h lo hi =
       let i : ℕ = p - 1 in
       let li : i < m = omega (arith, lo, hi) in
       let z : Seen = sees (Some (Invoke p Read)) u in
@@ -188,12 +192,12 @@ module _ (m values : ℕ) where
       let zo : z.overlaps p ≡ in_progress u.writing = put_same p (in_progress u.writing) u.overlaps in
       let zf : z.fresh p ≡ u.last = put_same p u.last u.fresh in
       let me : mid i ≡ s = put_same i s j.parts in
-      let copier : CopierSays m (j.tasks 0) z mid =
-      copier_same m (j.tasks 0) u z j.parts mid refl refl (put_all (λ k x. (j.parts k).last ≡ x.last) i s j.parts refl (λ k ne. refl)) (put_all (λ k x. (j.parts k).writing ≡ x.writing) i s j.parts refl (λ k ne. refl)) h.copier in
+      let says : WriterSays m (j.tasks 0) z mid =
+      writer_says_same m (j.tasks 0) u z j.parts mid refl refl (put_all (λ k x. (j.parts k).last ≡ x.last) i s j.parts refl (λ k ne. refl)) (put_all (λ k x. (j.parts k).writing ≡ x.writing) i s j.parts refl (λ k ne. refl)) h.writer in
       let alone : AloneReadsAgree m z mid = λ r rl rh. elim (cases_eq r p) as (λ c. z.overlaps r ≡ [] → ((mid (r - 1)).overlaps 1 ≡ []) × (((mid (r - 1)).fresh 1 ≡ z.fresh r) × (z.writing ≡ None))) [
         | inl e ↦ λ o.
             let n : u.writing ≡ None = none_in_progress u.writing (sym zo ∙ sym (ap (λ x. z.overlaps x) e) ∙ o) in
-            let st : Idle m u j.parts = writer_idle m (j.tasks 0) u j.parts h.copier n in (
+            let st : Idle m u j.parts = writer_idle m (j.tasks 0) u j.parts h.writer n in (
               ap (λ x. (mid (x - 1)).overlaps 1) e ∙ ap (λ x. x.overlaps 1) me ∙ ap in_progress (st.quiet i li),
               (ap (λ x. (mid (x - 1)).fresh 1) e ∙ ap (λ x. x.fresh 1) me ∙ st.last i li ∙ sym zf ∙ sym (ap (λ x. z.fresh x) e), n),
             )
@@ -210,12 +214,12 @@ module _ (m values : ℕ) where
             good_begun IsFreshAlone p Read None u refl tt,
             record {
               alone = alone;
-              copier = subst (λ y. CopierSays m y z mid) (sym (put_other p 0 (Some (record { op = Read; task = Reading p })) j.tasks (λ q. omega (arith, q, lo)))) copier;
+              writer = subst (λ y. WriterSays m y z mid) (sym (put_other p 0 (Some (record { op = Read; task = Reading p })) j.tasks (λ q. omega (arith, q, lo)))) says;
             },
           ),
         ),
         λ o ans pass good. elim o as (λ o. Answers values Read o → IsNotSpent o → AllByRecursion IsFreshAlone (got (Some (end_event 1 o)) s)
-            → Runs t w p Read (λ e. IsGoodStep IsFreshAlone u (in_order (Some (Invoke p Read)) e)) (Ends o) (record j { parts = put i (sees (Some (end_event 1 o)) s) j.parts })) [
+            → Runs table watch p Read (λ e. IsGoodStep IsFreshAlone u (in_order (Some (Invoke p Read)) e)) (Ends o) (record j { parts = put i (sees (Some (end_event 1 o)) s) j.parts })) [
               | Value x ↦ λ ans pass good. (
                 z,
                 (
@@ -223,7 +227,7 @@ module _ (m values : ℕ) where
                       (gives_fresh p x z s (λ o. let f = alone p lo hi o in (sym (ap (λ x. x.overlaps 1) me) ∙ f.0, (sym (ap (λ x. x.fresh 1) me) ∙ f.1.0, f.1.1))) good.0, tt),
                   record {
                     alone = alone;
-                    copier = subst (λ y. CopierSays m y z mid) (sym (put_other p 0 None j.tasks (λ q. omega (arith, q, lo)))) copier;
+                    writer = subst (λ y. WriterSays m y z mid) (sym (put_other p 0 None j.tasks (λ q. omega (arith, q, lo)))) says;
                   },
                 ),
               )
@@ -232,20 +236,22 @@ module _ (m values : ℕ) where
             ] ans pass good,
       )
 
+  -- an operation from its invocation on keeps the invariant
   begins : (u : Seen) (j : View CopiesTask) (p : ℕ) (op : Op) → CopiesInv m u j → j.tasks p ≡ None → one_writer values (m + 1) p op ≡ true
-      → Runs t w p op (λ e. IsGoodStep IsFreshAlone u (in_order (Some (Invoke p op)) e)) (copies_program m p op) j
-  begins u j p (Write v) h free s = begin_write u j p v h free (writer.writer_zero values (m + 1) p v s)
-  begins u j p Read h free s = let lo = writer.reader_is_not_zero values (m + 1) p s in let hi = writer.reader_below_processes values (m + 1) p s in begin_read u j p h lo (omega (arith, hi))
+      → Runs table watch p op (λ e. IsGoodStep IsFreshAlone u (in_order (Some (Invoke p op)) e)) (copies_program m p op) j
+  begins u j p (Write v) h free s = begins_write u j p v h free (writer.writer_zero values (m + 1) p v s)
+  begins u j p Read h free s = let lo = writer.reader_is_not_zero values (m + 1) p s in let hi = writer.reader_below_processes values (m + 1) p s in begins_read u j p h lo (omega (arith, hi))
 
-  go_ends : (u : Seen) (j : View CopiesTask) (p : ℕ) (op : Op) (task : CopiesTask) (chosen : Option (ℕ × Bool)) (o : Outcome) → CopiesInv m u j → j.tasks p ≡ Some (record { op = op; task = task })
+  -- the rest of an operation, once its task has ended, keeps the invariant
+  goes : (u : Seen) (j : View CopiesTask) (p : ℕ) (op : Op) (task : CopiesTask) (chosen : Option (ℕ × Bool)) (o : Outcome) → CopiesInv m u j → j.tasks p ≡ Some (record { op = op; task = task })
       → CopiesMayBeAt m values p op task
-      → Answers values (t.asks task).op o → IsNotSpent o → AllByRecursion IsFreshAlone (got (Some (end_event (t.asks task).who o)) (j.parts (t.asks task).part))
-      → Runs t w p op (λ e. IsGoodStep IsFreshAlone u (in_order (chosen_of p chosen) e)) (copies_rest m task o)
-      (record j { parts = put (t.asks task).part (sees (Some (end_event (t.asks task).who o)) (j.parts (t.asks task).part)) j.parts })
-  go_ends u j p (Write x) (Writing v r) chosen (Value y) h mine st ans pass good = absurd ans
-  go_ends u j p (Write x) (Writing v r) chosen (Spent l) h mine st ans pass good = absurd pass
-  go_ends u j p (Write x) (Writing v r) chosen Written h mine st ans pass good =
-      let h0 : WritesCopy m r v u j.parts = subst (λ y. CopierSays m y u j.parts) (sym (ap j.tasks st.0) ∙ mine) h.copier in
+      → Answers values (table.asks task).op o → IsNotSpent o → AllByRecursion IsFreshAlone (got (Some (end_event (table.asks task).who o)) (j.parts (table.asks task).part))
+      → Runs table watch p op (λ e. IsGoodStep IsFreshAlone u (in_order (chosen_of p chosen) e)) (copies_rest m task o)
+      (record j { parts = put (table.asks task).part (sees (Some (end_event (table.asks task).who o)) (j.parts (table.asks task).part)) j.parts })
+  goes u j p (Write x) (Writing v r) chosen (Value y) h mine st ans pass good = absurd ans
+  goes u j p (Write x) (Writing v r) chosen (Spent l) h mine st ans pass good = absurd pass
+  goes u j p (Write x) (Writing v r) chosen Written h mine st ans pass good =
+      let h0 : WritesCopy m r v u j.parts = subst (λ y. WriterSays m y u j.parts) (sym (ap j.tasks st.0) ∙ mine) h.writer in
       let i : ℕ = r - 1 in
       let e : Seen = sees (Some (Wrote 0)) (j.parts i) in
       let lo : 1 ≤ r = st.3 in
@@ -257,37 +263,38 @@ module _ (m values : ℕ) where
         quiet = put_all (λ k x. k < m → x.writing ≡ None) i e j.parts (λ lk. refl) (λ k ne lk. h0.quiet k lk ne);
       }) (agree_while_writing m v u u j.parts (put i e j.parts) h0.writing h.alone (λ r. refl))
       (good_gone IsFreshAlone p chosen None u refl tt) (good_gone IsFreshAlone p chosen (Some (Wrote p)) u refl tt)
-  go_ends u j p Read (Reading r) chosen Written h mine st ans pass good = absurd ans
-  go_ends u j p Read (Reading r) chosen (Spent l) h mine st ans pass good = absurd pass
-  go_ends u j p Read (Reading r) chosen (Value x) h mine st ans pass good =
+  goes u j p Read (Reading r) chosen Written h mine st ans pass good = absurd ans
+  goes u j p Read (Reading r) chosen (Spent l) h mine st ans pass good = absurd pass
+  goes u j p Read (Reading r) chosen (Value x) h mine st ans pass good =
       let i : ℕ = r - 1 in
       let lo : 1 ≤ r = st.1 in
       let is : r ≡ p = st.0 in
-      subst (λ f. Runs t w p Read (λ e. IsGoodStep IsFreshAlone u (in_order (chosen_of p chosen) e)) (Ends (Value x)) (record j { parts = f })) (put_back i j.parts) (
+      subst (λ f. Runs table watch p Read (λ e. IsGoodStep IsFreshAlone u (in_order (chosen_of p chosen) e)) (Ends (Value x)) (record j { parts = f })) (put_back i j.parts) (
         u,
         (
           good_gone IsFreshAlone p chosen (Some (Got p x)) u refl
               (subst (λ q. IsFreshAlone (record { reader = q; value = x; fresh = u.fresh q; overlaps = u.overlaps q })) is (gives_fresh r x u (j.parts i) (h.alone r lo st.2) good.0), tt),
-          record { alone = h.alone; copier = subst (λ y. CopierSays m y u j.parts) (sym (put_other p 0 None j.tasks (λ q. omega (arith, q, lo, is)))) h.copier },
+          record { alone = h.alone; writer = subst (λ y. WriterSays m y u j.parts) (sym (put_other p 0 None j.tasks (λ q. omega (arith, q, lo, is)))) h.writer },
         ),
       )
-  go_ends u j p (Write x) (Reading r) chosen o h mine st ans pass good = absurd st
-  go_ends u j p Read (Writing v r) chosen o h mine st ans pass good = absurd st
+  goes u j p (Write x) (Reading r) chosen o h mine st ans pass good = absurd st
+  goes u j p Read (Writing v r) chosen o h mine st ans pass good = absurd st
 
   -- the invariant holds at first, every step keeps it, and a returned read that overlaps no write
   -- is fresh
-  pub copies_kept : IsKept t (CopiesMayBeAt m values) w opening (IsGoodStep IsFreshAlone)
+  pub copies_kept : IsKept table (CopiesMayBeAt m values) watch opening (IsGoodStep IsFreshAlone)
   copies_kept = record {
     initial = λ v l j ew et ep. record {
       alone = λ r lo hi o. (let f = ep (r - 1) (omega (arith, lo, hi)) in (ap (λ s. s.overlaps 1) f, (ap (λ s. s.fresh 1) f, refl)));
-      copier = subst (λ y. CopierSays m y (opening v) j.parts) (sym (et 0)) (record { writing = refl; last = λ k lk. ap (λ s. s.last) (ep k lk); quiet = λ k lk. ap (λ s. s.writing) (ep k lk) });
+      writer = subst (λ y. WriterSays m y (opening v) j.parts) (sym (et 0)) (record { writing = refl; last = λ k lk. ap (λ s. s.last) (ep k lk); quiet = λ k lk. ap (λ s. s.writing) (ep k lk) });
     };
-    passes = good_passes w IsFreshAlone;
+    passes = good_passes watch IsFreshAlone;
     begins = begins;
-    goes = λ u j p n chosen o h mine s ans pass good. go_ends u j p n.op n.task chosen o h mine s ans pass good;
+    goes = λ u j p n chosen o h mine s ans pass good. goes u j p n.op n.task chosen o h mine s ans pass good;
   }
 
-  pub copies_user : IsUser t (CopiesMayBeAt m values) copies_user_of
+  -- the writer acts as itself on every copy, and a reader on its own copy
+  pub copies_user : IsUser table (CopiesMayBeAt m values) copies_user_of
   copies_user p (Write x) (Writing v r) s = sym s.0
   copies_user p Read (Reading r) s = let lo : 1 ≤ r = s.1 in let is : r ≡ p = s.0 in omega (arith, lo, is)
   copies_user p (Write x) (Reading r) s = absurd s

@@ -1,5 +1,6 @@
-//! Tests of layers over registers that no file names: which layers can be built, how deep they can
-//! be nested, whether neighbours disturb each other, and which registers are equal.
+//! Tests of layers and towers that are built by calls, not read from files: which layers can be
+//! built, how deep they can be nested, whether neighbours disturb each other, which registers are
+//! equal, and what a refused write to a matrix leaves.
 
 mod depth;
 mod equality;

@@ -3,22 +3,22 @@
 #![tactic(auto)]
 
 #[cfg(test)]
-mod benches;
+mod bench_files;
 #[cfg(test)]
 mod built_towers;
 #[cfg(test)]
 mod configurations;
 #[cfg(test)]
-mod easiest;
+mod easiest_schedules;
 #[cfg(test)]
-mod files;
+mod file_checks;
 #[cfg(test)]
 mod questions;
 #[cfg(test)]
 mod replays;
 #[cfg(test)]
-mod spelling;
-#[cfg(test)]
 mod steps;
 #[cfg(test)]
 mod stores;
+#[cfg(test)]
+mod tower_files;

@@ -4,7 +4,7 @@
 use answers::find::{MOST_STATES, find};
 use answers::found::{Found, Unfound};
 use answers::outcomes::Outcomes;
-use answers::question::{After, Nth, Question};
+use answers::question::{After, NthOp, Question};
 use frames::register::Register;
 use frames::safe::Safe;
 use frames::types::{Op, Outcome};
@@ -20,11 +20,11 @@ const WRITTEN: Outcome = Outcome::Written;
 
 /// Process 1's read follows process 0's write.
 const READ_AFTER_WRITE: After = After {
-    later: Nth {
+    later: NthOp {
         process: 1,
         index: 0,
     },
-    earlier: Nth {
+    earlier: NthOp {
         process: 0,
         index: 0,
     },
@@ -32,11 +32,11 @@ const READ_AFTER_WRITE: After = After {
 
 /// Process 0's write follows process 1's read.
 const WRITE_AFTER_READ: After = After {
-    later: Nth {
+    later: NthOp {
         process: 0,
         index: 0,
     },
-    earlier: Nth {
+    earlier: NthOp {
         process: 1,
         index: 0,
     },
@@ -105,8 +105,8 @@ fn assert_either(rt: &impl Abort, found: &Found) {
     }
 }
 
-/// The answers to a question about a safe bit, after it is asserted that there are `count`.
-fn listed(
+/// Finds the answers to a question about a safe bit, and asserts that there are `count`.
+fn find_exactly(
     rt: &impl Abort,
     alloc: Global,
     question: &Question,
@@ -125,7 +125,7 @@ fn assert_unfound(rt: &impl Abort, alloc: Global, question: &Question, most: u32
 #[test]
 fn read_that_overlaps_a_write(rt: HostRuntime) -> Result<(), Fail> {
     let question = write_and_read(rt.alloc())?;
-    assert_either(&rt, &listed(&rt, rt.alloc(), &question, 2)?);
+    assert_either(&rt, &find_exactly(&rt, rt.alloc(), &question, 2)?);
     Ok(())
 }
 
@@ -159,7 +159,7 @@ fn new_before_old(rt: HostRuntime) -> Result<(), Fail> {
 fn stopped_writer(rt: HostRuntime) -> Result<(), Fail> {
     let mut question = write_and_read(rt.alloc())?;
     question.may_stop.push(0)?;
-    let found = listed(&rt, rt.alloc(), &question, 4)?;
+    let found = find_exactly(&rt, rt.alloc(), &question, 4)?;
     assert_eq!(rt; length(&found, &[], &[Outcome::Value(0)]), Some(4));
     assert_eq!(rt; length(&found, &[], &[Outcome::Value(1)]), Some(6));
     assert_either(&rt, &found);
@@ -171,7 +171,7 @@ fn stopped_writer(rt: HostRuntime) -> Result<(), Fail> {
 fn read_after_write(rt: HostRuntime) -> Result<(), Fail> {
     let mut question = write_and_read(rt.alloc())?;
     question.after.push(READ_AFTER_WRITE)?;
-    let found = listed(&rt, rt.alloc(), &question, 1)?;
+    let found = find_exactly(&rt, rt.alloc(), &question, 1)?;
     assert_length(&rt, &found, &[Outcome::Value(1)], 6);
     Ok(())
 }
@@ -199,7 +199,7 @@ fn unfit(rt: HostRuntime) -> Result<(), Fail> {
 fn cycle(rt: HostRuntime) -> Result<(), Fail> {
     let mut question = write_and_read(rt.alloc())?;
     question.after.push(WRITE_AFTER_READ)?;
-    listed(&rt, rt.alloc(), &question, 1)?;
+    find_exactly(&rt, rt.alloc(), &question, 1)?;
     question.after.push(READ_AFTER_WRITE)?;
     assert_unfound(&rt, rt.alloc(), &question, MANY, Unfound::Unfit);
     Ok(())

@@ -42,6 +42,7 @@ pub trait NewRegularBit<S: Register>: Sized {
 impl<S: Register> NewRegularBit<S> for RegularBit<S> {
     fn new(below: S) -> Result<RegularBit<S>, LayerError> {
         let processes = below.processes();
+        // The rules' field `some` needs this; `over` checks the limits.
         if processes == 0 {
             return Err(LayerError::BadSize);
         }

@@ -1,5 +1,7 @@
 -- Steps of a schedule.
 use Rattle.std.specs.Prelude.{ℕ}
+use Rattle.schedule_steps.specs.declared.types.Op.{Op}
+use Rattle.schedule_steps.specs.declared.types.Op.TheVariants as op
 use Rattle.schedule_steps.specs.declared.types.Step.{Step}
 use Rattle.schedule_steps.specs.declared.types.Step.TheVariants as step
 
@@ -9,3 +11,8 @@ process_of (step.Write p v) = p
 process_of (step.Read p) = p
 process_of (step.Go p c) = p
 process_of (step.Stop p) = p
+
+-- the step by which process p invokes an operation
+abbrev pub invoking_step : ℕ → Op → Step
+invoking_step p (op.Write v) = step.Write p v
+invoking_step p op.Read = step.Read p

@@ -1,3 +1,4 @@
+pub mod Results
 pub mod lists
 pub mod branches
 pub mod climbs

@@ -1,6 +1,5 @@
 pub mod KeyedBranches
 pub mod Lines
-pub mod Whole
 pub mod NamesApart
 pub mod NamesKept
 pub mod Shared

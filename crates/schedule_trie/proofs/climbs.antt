@@ -1,3 +1,3 @@
-pub mod CellPlaces
+pub mod KeysAbove
 pub mod Climbs
 pub mod ClimbSteps

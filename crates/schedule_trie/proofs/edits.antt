@@ -1,6 +1,7 @@
 pub mod Pushes
 pub mod PushSteps
 pub mod PushFresh
+pub mod PushedWhole
 pub mod PushedAll
 pub mod Insertion
 pub mod InsertSteps

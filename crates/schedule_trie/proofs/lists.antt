@@ -1,4 +1,7 @@
 pub mod NoRepeats
+pub mod LastKeys
+pub mod ListParts
 pub mod KeyPositions
-pub mod Positions
+pub mod KeyIndices
 pub mod PathsWithout
+pub mod Searches

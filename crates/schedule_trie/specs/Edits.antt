@@ -6,7 +6,7 @@ use Rattle.schedule_trie.specs.declared.edit.Edit.TheVariants as borrowed
 use Rattle.branch_terms.specs.declared.refusal.Refusal.{Refusal}
 use Rattle.branch_terms.specs.declared.limits.Limits.{Limits}
 use Rattle.branch_terms.specs.Forest.{Forest, insert, remove_cell, replace_step, fork, detach, drop_branch, IsRefused}
-use Rattle.schedule_trie.specs.Trie.{TrieOf, forest, IsCut, KeepsNotesBut, KeepsNotesOff, KeepsUnchanged, KeepsAllNotes, HoldsCellAt, MayGrowAt, IsParted}
+use Rattle.schedule_trie.specs.Trie.{TrieOf, forest, IsCut, KeepsNotesBut, KeepsNotesExcept, KeepsUnchanged, KeepsAllNotes, HoldsCellAt, MayTouchAt, IsParted}
 
 -- an edit of the branch with the first name. `Insert` a new cell at a place; `Remove` the cell at a
 -- place; `Replace` the step of the cell at a place; `Fork`: add a branch, with the second name,
@@ -49,10 +49,10 @@ edited limits f (Drop name) = drop_branch f name
 -- Detach and drop touch no segment. The other segments that remain keep their notes, and new ones
 -- have none.
 abbrev pub KeepsNotesBy : {T : Type 0} → Edit → TrieOf T → TrieOf T → Type 0
-KeepsNotesBy (Insert name place step) old new = KeepsNotesBut old new (HoldsCellAt old name place) (MayGrowAt old new name place step) × KeepsUnchanged old new
-KeepsNotesBy (Remove name place) old new = KeepsNotesOff old new (HoldsCellAt old name place)
-KeepsNotesBy (Replace name place step) old new = KeepsNotesOff old new (HoldsCellAt old name place)
-KeepsNotesBy (Fork name place made) old new = KeepsNotesOff old new (IsParted old name place)
+KeepsNotesBy (Insert name place step) old new = KeepsNotesBut old new (HoldsCellAt old name place) (MayTouchAt old new name place step) × KeepsUnchanged old new
+KeepsNotesBy (Remove name place) old new = KeepsNotesExcept old new (HoldsCellAt old name place)
+KeepsNotesBy (Replace name place step) old new = KeepsNotesExcept old new (HoldsCellAt old name place)
+KeepsNotesBy (Fork name place made) old new = KeepsNotesExcept old new (IsParted old name place)
 KeepsNotesBy (Detach name) old new = KeepsAllNotes old new
 KeepsNotesBy (Drop name) old new = KeepsAllNotes old new
 

@@ -13,8 +13,8 @@ abbrev pub mark_at : List (Option Mark) → ℕ → Option Mark
 mark_at marks k = slice_index_or marks k None
 
 -- the list of marks is long enough to have a mark at the key of each segment
-abbrev pub HasPlaces : {T : Type 0} → TrieOf T → List (Option Mark) → Type 0
-HasPlaces c marks = (k : ℕ) → IsSome (segment_at c.segments k) → k < length marks
+abbrev pub CoversSegments : {T : Type 0} → TrieOf T → List (Option Mark) → Type 0
+CoversSegments c marks = (k : ℕ) → IsSome (segment_at c.segments k) → k < length marks
 
 -- m is the mark at the given key; if no key is given, m has branch 0 and 0 cells
 abbrev pub IsMarkOf : List (Option Mark) → Option ℕ → Mark → Type 0
@@ -48,6 +48,6 @@ pub record IsMark {T : Type 0} (at : ℕ → Option (SegmentOf T)) (branches : L
 -- each segment of the first `count` branches has its right mark (`IsMark`), no other segment is
 -- marked, and the list is long enough for the mark of each segment
 pub record MarksFirst {T : Type 0} (trie : TrieOf T) (count : ℕ) (marks : List (Option Mark)) : Type 0 where
-  pub places : HasPlaces trie marks
+  pub places : CoversSegments trie marks
   pub right : (k : ℕ) → IfSome (mark_at marks k) (IsMark (segment_at trie.segments) trie.branches count k)
   pub none : (j k : ℕ) → mark_at marks k ≡ None → j < count → has k (keys_in trie.branches j) ≡ false

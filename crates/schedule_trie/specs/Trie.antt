@@ -175,13 +175,13 @@ abbrev pub IsBlank : {T : Type 0} → TrieOf T → Type 0
 IsBlank trie = (k : ℕ) → note_of (segment_at trie.segments k) ≡ None
 
 -- the cells of a segment; None if there is no segment
-abbrev pub slots_by : {T : Type 0} → Option (SegmentOf T) → Option (List Slot)
-slots_by o = option_map (λ this. this.slots) o
+abbrev pub slots_if_some : {T : Type 0} → Option (SegmentOf T) → Option (List Slot)
+slots_if_some o = option_map (λ this. this.slots) o
 
 -- from trie `old` to trie `new`, each segment whose cells don't change keeps its note
 abbrev pub KeepsUnchanged : {T : Type 0} → TrieOf T → TrieOf T → Type 0
 KeepsUnchanged old new =
-    (k : ℕ) → slots_by (segment_at new.segments k) ≡ slots_by (segment_at old.segments k) → segment_at new.segments k ≡ segment_at old.segments k
+    (k : ℕ) → slots_if_some (segment_at new.segments k) ≡ slots_if_some (segment_at old.segments k) → segment_at new.segments k ≡ segment_at old.segments k
 
 -- the segment at `key` has other cells in trie `new` than it had in trie `old`
 abbrev pub HasChanged : {T : Type 0} → TrieOf T → TrieOf T → ℕ → Type 0
@@ -212,8 +212,8 @@ pub record KeepsNotesBut {T : Type 0} (old new : TrieOf T) (Must May : ℕ → T
 
 -- from trie `old` to trie `new`, notes are kept as `KeepsNotes` says, which lets one segment be
 -- touched and lose its note; a segment is touched exactly if it satisfies `Is`
-abbrev pub KeepsNotesOff : {T : Type 0} → TrieOf T → TrieOf T → (ℕ → Type 0) → Type 0
-KeepsNotesOff old new Is = KeepsNotesBut old new Is Is
+abbrev pub KeepsNotesExcept : {T : Type 0} → TrieOf T → TrieOf T → (ℕ → Type 0) → Type 0
+KeepsNotesExcept old new Is = KeepsNotesBut old new Is Is
 
 -- the condition that no segment satisfies
 abbrev pub Nowhere : ℕ → Type 0
@@ -246,8 +246,8 @@ IsExtended old new step key = slots_of (segment_at new.segments key) ≡ slots_o
 -- touch the segment at `key`. Either the segment has the cell at `place`; or `place` is the
 -- branch's length, the segment has the branch's last cell, and it gets the new cell after its other
 -- cells, which stay as they were.
-abbrev pub MayGrowAt : {T : Type 0} → TrieOf T → TrieOf T → List ℕ → ℕ → Step → ℕ → Type 0
-MayGrowAt old new name place step key =
+abbrev pub MayTouchAt : {T : Type 0} → TrieOf T → TrieOf T → List ℕ → ℕ → Step → ℕ → Type 0
+MayTouchAt old new name place step key =
     HoldsCellAt old name place key ⊎ ((len_of (forest old) name ≡ Some place) × (HoldsCellBefore old name place key × IsExtended old new step key))
 
 -- from trie `old` to trie `new`, each segment of `old` keeps its cells and its note; or it is gone,
@@ -262,7 +262,7 @@ pub record IsStepSet {T : Type 0} (old new : TrieOf T) (key offset : ℕ) (step 
       → (forest new).branches ≡ everywhere (replaced s.cell step) (forest old).branches
   pub made : new.made ≡ old.made
   pub limits : new.limits ≡ old.limits
-  pub notes : KeepsNotesOff old new (λ k. k ≡ key)
+  pub notes : KeepsNotesExcept old new (λ k. k ≡ key)
   pub cut : IsCut new
 
 -- from trie `old` to trie `new`, the cell at `offset` of the segment at `key` is removed from each
@@ -272,7 +272,7 @@ pub record IsRemoved {T : Type 0} (old new : TrieOf T) (key offset : ℕ) : Type
       → (forest new).branches ≡ everywhere (without s.cell) (forest old).branches
   pub made : new.made ≡ old.made
   pub limits : new.limits ≡ old.limits
-  pub notes : KeepsNotesOff old new (λ k. k ≡ key)
+  pub notes : KeepsNotesExcept old new (λ k. k ≡ key)
   pub cut : IsCut new
 
 -- no branch has the segment at `key`, except perhaps the branch at `index`
@@ -328,7 +328,7 @@ pub record IsPutBefore {T : Type 0} (old new : TrieOf T) (key offset : ℕ) (ste
       → (forest new).branches ≡ everywhere (put_before s.cell (slot old.made step)) (forest old).branches
   pub made : new.made ≡ old.made + 1
   pub limits : new.limits ≡ old.limits
-  pub notes : KeepsNotesOff old new (λ k. k ≡ key)
+  pub notes : KeepsNotesExcept old new (λ k. k ≡ key)
   pub changed : HasChanged old new key
   pub cut : IsCut new
 
@@ -339,7 +339,7 @@ pub record IsPutBefore {T : Type 0} (old new : TrieOf T) (key offset : ℕ) (ste
 pub record IsInserted {T : Type 0} (old new : TrieOf T) (index place : ℕ) (step : Step) : Type 0 where
   pub forest_is : forest new ≡ inserted (forest old) index place step
   pub limits : new.limits ≡ old.limits
-  pub notes : (name : List ℕ) → index_of (forest old).branches name ≡ Some index → KeepsNotesBut old new (HoldsCellAt old name place) (MayGrowAt old new name place step)
+  pub notes : (name : List ℕ) → index_of (forest old).branches name ≡ Some index → KeepsNotesBut old new (HoldsCellAt old name place) (MayTouchAt old new name place step)
   pub unchanged : KeepsUnchanged old new
   pub cut : IsCut new
 

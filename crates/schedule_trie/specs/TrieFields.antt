@@ -44,13 +44,13 @@ module _ {T : Type 0} where
   trie_of t = record { branches = keyed_branches (names_of t) t.segments.paths; segments = segments_of t.segments.items; made = t.made; limits = t.limits }
 
   -- the trie is correct and within its limits (`IsWhole`), and has one path for each branch
-  pub record IsHeldTrie (t : Inside T) : Type 0 where
+  pub record IsWholeWithPaths (t : Inside T) : Type 0 where
     pub whole : IsWhole (trie_of t)
     pub paths : length t.segments.paths ≡ length (names_of t)
 
-  -- the invariant of a trie: it is correct and within its limits, with one path for each
-  -- branch (`IsHeldTrie`); cached lengths are right; and each name has the form of a branch's name
+  -- the invariant of a trie: it is correct and within its limits, with one path for each branch
+  -- (`IsWholeWithPaths`); cached lengths are right; and each name has the form of a branch's name
   pub record IsTrie (t : Inside T) : Type 0 where
-    pub held : IsHeldTrie t
+    pub held : IsWholeWithPaths t
     pub lengths : AreLengths t.branches.entries (forest (trie_of t)).branches
     pub names : AreNames (names_of t)

@@ -1,4 +1,4 @@
-pub mod Copies
+pub mod Detaches
+pub mod Drops
 pub mod Forks
-pub mod Releases
 pub mod Loads

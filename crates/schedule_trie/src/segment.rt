@@ -77,10 +77,10 @@ impl<T: Drop> Segment<T> {
     }
 
     /// Inserts a cell at an offset, and clears the note. If memory runs out, nothing changes. Uses
-    /// `copies` as scratch memory, so what was in it is lost.
+    /// `scratch` for copies of cells, so what was in it is lost.
     pub(crate) fn insert(
         &mut self,
-        copies: &mut Vec<Slot>,
+        scratch: &mut Vec<Slot>,
         offset: usize,
         slot: Slot,
     ) -> Result<(), AllocError>
@@ -92,9 +92,9 @@ impl<T: Drop> Segment<T> {
         ensures err_note { OnErr result (self.new.note ≡ self.old.note) }
     {
         // copying many cells out and back is cheaper than moving each of them by one
-        copy_from(copies, &self.slots, offset)?;
+        copy_from(scratch, &self.slots, offset)?;
         self.slots.reserve(1)?;
-        replace_end(&mut self.slots, offset, slot, copies);
+        replace_end(&mut self.slots, offset, slot, scratch);
         self.clear_note();
         Ok(())
     }
@@ -145,13 +145,13 @@ impl<T: Drop> Segment<T> {
     }
 }
 
-/// Replaces what is in `copies` by copies of the cells from `offset` to the end.
-fn copy_from(copies: &mut Vec<Slot>, slots: &[Slot], offset: usize) -> Result<(), AllocError>
+/// Replaces what is in `scratch` by copies of the cells from `offset` to the end.
+fn copy_from(scratch: &mut Vec<Slot>, slots: &[Slot], offset: usize) -> Result<(), AllocError>
     requires { offset ≤ length slots.now }
-    ensures { OnOk result (copies.new.items ≡ drop offset slots.now) }
+    ensures { OnOk result (scratch.new.items ≡ drop offset slots.now) }
 {
-    copies.clear();
-    copies.extend_from_slice(&slots[offset..])
+    scratch.clear();
+    scratch.extend_from_slice(&slots[offset..])
 }
 
 /// Replaces the cells from `offset` to the end by the cell `slot` and then `others`. Memory for

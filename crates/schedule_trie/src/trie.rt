@@ -5,14 +5,13 @@ ghost use Rattle.std.specs.Option.{option_map, option_copied};
 ghost use Rattle.schedule_trie.specs.Climbs.{last_of};
 ghost use Rattle.std.specs.List.{position};
 ghost use Rattle.branch_terms.specs.Forest.{path_of, step_of, cell_on_branch, place_of, is_cell, opened, opening_forest, lone_branch, IsRefused, index_of, slots_in, name_in, len_of, AreNamedApart, IsForest};
-ghost use Rattle.schedule_trie.specs.Edits.{Replace, IsEdited, IsUnedited};
 ghost use Rattle.branch_terms.specs.Limbs.{is_name, HaveNames};
-ghost use Rattle.schedule_trie.specs.Trie.{IsBlank, IsNoted, IsWhole, above_of, before_key, keys_by, query_refusal, note_of, AreLimits, has, IsOwnEnd, IsPushed, LackedByOthers, forest, IsCut, IsStepSet, segment_at, slots_of, keys_in, line, SpotHasCellAt};
+ghost use Rattle.schedule_trie.specs.Trie.{IsBlank, IsNoted, IsWhole, above_of, before_key, keys_by, query_refusal, note_of, AreLimits, has, IsOwnEnd, IsPushed, LackedByOthers, forest, IsCut, segment_at, slots_of, keys_in, line, SpotHasCellAt};
 ghost use Rattle.branch_terms.specs.declared.limits.TheConstants.{MOST_CELLS_MADE};
 
 mod climb;
 mod detach;
-mod drops;
+mod drop;
 mod fork;
 mod insert;
 mod lengths;
@@ -20,9 +19,9 @@ mod limbs;
 mod load;
 mod push;
 mod remove;
+mod replace;
 
 use crate::branch_list::BranchList;
-use crate::edit::Edited;
 pub use crate::segment::SegKey;
 use crate::segment::Segment;
 use branch_terms::limits::Limits;
@@ -47,8 +46,8 @@ pub struct Trie<T> {
     limits: Limits,
     // the index of the branch whose length was cached last
     last_cached: usize,
-    // scratch memory, into which an insert copies cells
-    copies: Vec<Slot>,
+    // what an insert copies cells into; nothing reads what is left in it
+    scratch: Vec<Slot>,
 }
 
 impl<T> Model for Trie<T> {
@@ -99,14 +98,14 @@ impl<T: Drop> Trie<T> {
         ensures cut { IfOk result IsCut }
         ensures blank { IfOk result IsBlank }
     {
-        let mut trie = Trie::alone(alloc, limits, name)?;
+        let mut trie = Trie::with_empty_branch(alloc, limits, name)?;
         trie.push_all(alloc, 0, steps)?;
         trie.cache_len(0);
         Ok(trie)
     }
 
     /// A trie with one branch, which has this name and no cells.
-    fn alone(alloc: Global, limits: Limits, name: Name) -> Result<Trie<T>, AllocError>
+    fn with_empty_branch(alloc: Global, limits: Limits, name: Name) -> Result<Trie<T>, AllocError>
         requires limits { AreLimits limits }
         requires name { is_name name ≡ true }
         ensures forest { IfOk result (λ t. forest t ≡ lone_branch name []) }
@@ -119,14 +118,14 @@ impl<T: Drop> Trie<T> {
         branches.insert(name)?;
         let mut segments = Lineage::new(alloc);
         segments.fork(None)?;
-        let copies = Vec::new(alloc);
+        let scratch = Vec::new(alloc);
         Ok(Trie {
             segments,
             branches,
             made: 0,
             limits,
             last_cached: 0,
-            copies,
+            scratch,
         })
     }
 
@@ -322,29 +321,6 @@ impl<T: Drop> Trie<T> {
         self.segments.item_mut(key).set_note(note);
     }
 
-    /// Replaces the step of the cell at a place of a branch, in each branch that has the cell. The
-    /// cell keeps its number. Clears the note of the cell's segment, and no other note. Never
-    /// allocates.
-    ///
-    /// # Errors
-    ///
-    /// NoBranch if there is no such branch; NoPlace if the branch has no cell there. After an error
-    /// nothing has changed.
-    pub fn replace(&mut self, branch: &Name, place: u32, step: Step) -> Edited
-        ensures ok { OnOk result (IsEdited self.old self.new (Replace branch.now place step)) }
-        ensures err { IfErr result (IsUnedited self.old self.new (Replace branch.now place step)) }
-    {
-        let Some(index) = self.index(branch) else {
-            return Err(Refusal::NoBranch);
-        };
-        self.cache_len(index);
-        let Some((key, offset)) = self.find_cell(index, place) else {
-            return Err(Refusal::NoPlace);
-        };
-        self.set_step(key, offset, step);
-        Ok(())
-    }
-
     /// The index of the branch with this name, which is below the number of branches; `None` if
     /// there is no such branch.
     pub fn index(&self, branch: &Name) -> Option<usize>
@@ -386,14 +362,6 @@ impl<T: Drop> Trie<T> {
             Some(segment) => segment.slots.as_slice(),
             None => &[],
         }
-    }
-
-    /// Replaces the step of the cell at an offset of a segment, and clears the segment's note.
-    fn set_step(&mut self, key: SegKey, offset: usize, step: Step)
-        requires { offset < length (slots_of (segment_at self.old.segments key)) }
-        ensures { IsStepSet self.old self.new key offset step }
-    {
-        self.segments.item_mut(key).set_step(offset, step);
     }
 }
 

@@ -11,8 +11,8 @@ use Rattle.script.specs.declared.call.Line.TheVariants as line
 use Rattle.script.specs.Lines.{call_of, is_call_byte, call_or_bad, call_line, read_line}
 use Rattle.script.specs.Spelling.{Number, spelled, call_words, request_words, call_text, is_sound, SpellsCall, IsBlankLine, LineSays}
 use Rattle.script.proofs.Sound.{call_shows}
-use Rattle.script.proofs.ReadBack.{number_again, call_again, few_words}
-use Rattle.script.proofs.Bytes.{are_visible, visible_words, sound_words, sound_visible, words-join, plain-join, short-join, IsNotBlank, number_is_not_blank}
+use Rattle.script.proofs.ReadBack.{number_again, call_again, few_call_words}
+use Rattle.script.proofs.Bytes.{are_visible, visible_words, sound_words, sound_visible, words-join, call_bytes-join, short-join, IsNotBlank, number_is_not_blank}
 
 -- ---- what is read is said
 
@@ -26,11 +26,11 @@ call_line_is text c h = by (nat_le (length text) 255 && list_all is_call_byte te
     by : (t : Bool) → (nat_le (length text) 255 && list_all is_call_byte text) ≡ t → cond t (call_or_bad (call_of (words text))) line.Bad ≡ line.Call c → SpellsCall text c
     by false e k = absurd cc
     by true e k =
-        let plain = (and_parts (nat_le (length text) 255) (list_all is_call_byte text) e).1 in
+        let call_bytes = (and_parts (nat_le (length text) 255) (list_all is_call_byte text) e).1 in
         let shows = call_shows (words text) c (call_is_read (call_of (words text)) c k) in
         record {
           own = shows.1;
-          sound = sound_words (call_words c) shows.0.small (subst (λ (ws : List (List ℕ)). are_visible ws ≡ true) shows.0.same (visible_words text plain));
+          sound = sound_words (call_words c) shows.0.small (subst (λ (ws : List (List ℕ)). are_visible ws ≡ true) shows.0.same (visible_words text call_bytes));
           text_is = sym (join_with_byte-slice_split 32 text) ∙ ap (join_with_byte 32) shows.0.same;
         }
 
@@ -40,9 +40,9 @@ call_line_again : (c : Call) (text : List ℕ) → SpellsCall text c → call_li
 call_line_again c text s =
     let ws = map spelled (request_words c.request) in
     let visible = sound_visible (call_words c) s.sound in
-    let short : nat_le (length (call_text c)) 255 ≡ true = le-leb (length (call_text c)) 255 (omega (arith, short-join (Number c.session) (request_words c.request) s.sound, few_words c)) in
+    let short : nat_le (length (call_text c)) 255 ≡ true = le-leb (length (call_text c)) 255 (omega (arith, short-join (Number c.session) (request_words c.request) s.sound, few_call_words c)) in
     let good : (nat_le (length (call_text c)) 255 && list_all is_call_byte (call_text c)) ≡ true =
-    and_from (nat_le (length (call_text c)) 255) (list_all is_call_byte (call_text c)) short (plain-join (decimal c.session) ws visible) in
+    and_from (nat_le (length (call_text c)) 255) (list_all is_call_byte (call_text c)) short (call_bytes-join (decimal c.session) ws visible) in
     ap call_line s.text_is
     ∙ ap (λ t. cond t (call_or_bad (call_of (words (call_text c)))) line.Bad) good
     ∙ ap (λ ws. call_or_bad (call_of ws)) (words-join (decimal c.session) ws visible)
@@ -57,7 +57,7 @@ reads_call : (c : Call) (text : List ℕ) → SpellsCall text c → read_line te
 reads_call c text s =
     let f = call_is_not_blank c text s in
     ap read_line f.same
-    ∙ ap (λ t. cond t line.Blank (call_line (f.first ∷ f.others))) f.plain
+    ∙ ap (λ t. cond t line.Blank (call_line (f.first ∷ f.others))) f.no_hash
     ∙ ap call_line (sym f.same)
     ∙ call_line_again c text s
 

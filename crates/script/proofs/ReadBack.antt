@@ -1,4 +1,4 @@
--- The words of a sound call are read as that call.
+-- The words of a sound call are read as that call. X_again says that X is read back from its words.
 use Rattle.std.proofs.Common.{◌≡◌, ◌==◌, ℕ, ◌≤◌, ◌^◌, true, false, cond, ◌&&◌, nat_le, List, [], ◌∷◌, length, map, Option, Some, None, refl, sym, ap, ◌∙◌, arith}
 use Rattle.std.specs.Prelude.{codes}
 use Rattle.std.specs.Fmt.{decimal}
@@ -51,11 +51,11 @@ branch_word_again b h =
 
 -- ---- the words after a command's first word
 
-one_again : (n : ℕ) → AreSound (Number n ∷ []) → one_number (decimal n ∷ []) ≡ Some n
-one_again n h = rw (number_again n (sound_parts (Number n) [] h).0) refl
+one_number_again : (n : ℕ) → AreSound (Number n ∷ []) → one_number (decimal n ∷ []) ≡ Some n
+one_number_again n h = rw (number_again n (sound_parts (Number n) [] h).0) refl
 
-two_again : (m n : ℕ) → AreSound (Number m ∷ Number n ∷ []) → two_numbers (decimal m ∷ decimal n ∷ []) ≡ Some (m, n)
-two_again m n h =
+two_numbers_again : (m n : ℕ) → AreSound (Number m ∷ Number n ∷ []) → two_numbers (decimal m ∷ decimal n ∷ []) ≡ Some (m, n)
+two_numbers_again m n h =
     let a = sound_parts (Number m) (Number n ∷ []) h in
     rw (number_again m a.0, number_again n (sound_parts (Number n) [] a.1).0) refl
 
@@ -67,7 +67,7 @@ module _ (b : List ℕ) (k : ℕ) where
   branch_and_place_again h =
       let a = sound_parts (Text b) (Number k ∷ []) h in
       ap (option_and_then (λ (x : List ℕ). option_and_then (λ (n : ℕ). Some (x, n)) (one_number (decimal k ∷ [])))) (branch_word_again b a.0)
-      ∙ ap (option_and_then (λ (n : ℕ). Some (b, n))) (one_again k a.1)
+      ∙ ap (option_and_then (λ (n : ℕ). Some (b, n))) (one_number_again k a.1)
 
   place_and_rest_again : {A : Type 0} (read : List (List ℕ) → Option A) (shape : List Word) (x : A) → (AreSound shape → read (map spelled shape) ≡ Some x)
       → AreSound (Text b ∷ Number k ∷ shape) → place_and_rest read (b ∷ decimal k ∷ map spelled shape) ≡ Some (b, k, x)
@@ -81,14 +81,14 @@ module _ (b : List ℕ) (k : ℕ) where
       ∙ ap (option_and_then (λ (y : A). Some (b, k, y))) (again c.1)
 
 step_again : (s : Step) → AreSound (step_words s) → step_of_words (map spelled (step_words s)) ≡ Some s
-step_again (step.Write p v) h = ap (option_map (λ (n : ℕ × ℕ). step.Write n.0 n.1)) (two_again p v (sound_parts (Text (codes "w")) (Number p ∷ Number v ∷ []) h).1)
-step_again (step.Read p) h = ap (option_map (λ (n : ℕ). step.Read n)) (one_again p (sound_parts (Text (codes "r")) (Number p ∷ []) h).1)
-step_again (step.Go p c) h = ap (option_map (λ (n : ℕ × ℕ). step.Go n.0 n.1)) (two_again p c (sound_parts (Text (codes "g")) (Number p ∷ Number c ∷ []) h).1)
-step_again (step.Stop p) h = ap (option_map (λ (n : ℕ). step.Stop n)) (one_again p (sound_parts (Text (codes "x")) (Number p ∷ []) h).1)
+step_again (step.Write p v) h = ap (option_map (λ (n : ℕ × ℕ). step.Write n.0 n.1)) (two_numbers_again p v (sound_parts (Text (codes "w")) (Number p ∷ Number v ∷ []) h).1)
+step_again (step.Read p) h = ap (option_map (λ (n : ℕ). step.Read n)) (one_number_again p (sound_parts (Text (codes "r")) (Number p ∷ []) h).1)
+step_again (step.Go p c) h = ap (option_map (λ (n : ℕ × ℕ). step.Go n.0 n.1)) (two_numbers_again p c (sound_parts (Text (codes "g")) (Number p ∷ Number c ∷ []) h).1)
+step_again (step.Stop p) h = ap (option_map (λ (n : ℕ). step.Stop n)) (one_number_again p (sound_parts (Text (codes "x")) (Number p ∷ []) h).1)
 
 break_again : (br : Break) → AreSound (break_words br) → break_of (map spelled (break_words br)) ≡ Some br
-break_again (break.Returns p) h = ap (option_map break.Returns) (one_again p (sound_parts (Text (codes "returns")) (Number p ∷ []) h).1)
-break_again (break.Bit j v) h = ap (option_map (λ (n : ℕ × ℕ). break.Bit n.0 n.1)) (two_again j v (sound_parts (Text (codes "bit")) (Number j ∷ Number v ∷ []) h).1)
+break_again (break.Returns p) h = ap (option_map break.Returns) (one_number_again p (sound_parts (Text (codes "returns")) (Number p ∷ []) h).1)
+break_again (break.Bit j v) h = ap (option_map (λ (n : ℕ × ℕ). break.Bit n.0 n.1)) (two_numbers_again j v (sound_parts (Text (codes "bit")) (Number j ∷ Number v ∷ []) h).1)
 break_again break.Chosen h = refl
 break_again break.Void h = refl
 break_again break.Refused h = refl
@@ -115,7 +115,7 @@ command_again (command.Clear br) h = (command_verb.Clear, refl, ap (option_map c
 look_again : (session : ℕ) (q : Query) → IsOwn session (Look q) → AreSound (query_words q)
     → (v : LookVerb) × (verb_of (next (map spelled (query_words q))) ≡ Some (verb.Look v)) × (look_of session v (after_next (map spelled (query_words q))) ≡ Some q)
 look_again session (State b k) own h = (look.State, refl, ap (option_map (λ (p : List ℕ × ℕ). State p.0 p.1)) (branch_and_place_again b k (sound_parts (Text (codes "state")) (place_words b k) h).1))
-look_again session (Process b k p) own h = (look.Process, refl, ap (option_map (λ (p : List ℕ × ℕ × ℕ). Process p.0 p.1 p.2)) (place_and_rest_again b k one_number (Number p ∷ []) p (one_again p) (sound_parts (Text (codes "process")) (Text b ∷ Number k ∷ Number p ∷ []) h).1))
+look_again session (Process b k p) own h = (look.Process, refl, ap (option_map (λ (p : List ℕ × ℕ × ℕ). Process p.0 p.1 p.2)) (place_and_rest_again b k one_number (Number p ∷ []) p (one_number_again p) (sound_parts (Text (codes "process")) (Text b ∷ Number k ∷ Number p ∷ []) h).1))
 look_again session (Bits b k) own h = (look.Bits, refl, ap (option_map (λ (p : List ℕ × ℕ). Bits p.0 p.1)) (branch_and_place_again b k (sound_parts (Text (codes "bits")) (place_words b k) h).1))
 look_again session (Pending b k) own h = (look.Pending, refl, ap (option_map (λ (p : List ℕ × ℕ). Pending p.0 p.1)) (branch_and_place_again b k (sound_parts (Text (codes "pending")) (place_words b k) h).1))
 look_again session (History b k) own h = (look.History, refl, ap (option_map (λ (p : List ℕ × ℕ). History p.0 p.1)) (branch_and_place_again b k (sound_parts (Text (codes "history")) (place_words b k) h).1))
@@ -154,50 +154,50 @@ call_again c own h =
 
 -- ---- how many words there are
 
-step_few : (s : Step) → length (step_words s) ≤ 3
-step_few (step.Write p v) = omega arith
-step_few (step.Read p) = omega arith
-step_few (step.Go p c) = omega arith
-step_few (step.Stop p) = omega arith
+few_step_words : (s : Step) → length (step_words s) ≤ 3
+few_step_words (step.Write p v) = omega arith
+few_step_words (step.Read p) = omega arith
+few_step_words (step.Go p c) = omega arith
+few_step_words (step.Stop p) = omega arith
 
-break_few : (br : Break) → length (break_words br) ≤ 3
-break_few (break.Returns p) = omega arith
-break_few (break.Bit j v) = omega arith
-break_few break.Chosen = omega arith
-break_few break.Void = omega arith
-break_few break.Refused = omega arith
+few_break_words : (br : Break) → length (break_words br) ≤ 3
+few_break_words (break.Returns p) = omega arith
+few_break_words (break.Bit j v) = omega arith
+few_break_words break.Chosen = omega arith
+few_break_words break.Void = omega arith
+few_break_words break.Refused = omega arith
 
-command_few : (c : Command) → length (command_words c) ≤ 6
-command_few command.Join = omega arith
-command_few command.Leave = omega arith
-command_few (command.Insert b k s) = omega (arith, step_few s)
-command_few (command.Remove b k) = omega arith
-command_few (command.Replace b k s) = omega (arith, step_few s)
-command_few (command.Fork b k name) = omega arith
-command_few (command.Detach b) = omega arith
-command_few (command.Drop b) = omega arith
-command_few (command.Go b k) = omega arith
-command_few command.Seek = omega arith
-command_few command.Back = omega arith
-command_few (command.Break br) = omega (arith, break_few br)
-command_few (command.Clear br) = omega (arith, break_few br)
+few_command_words : (c : Command) → length (command_words c) ≤ 6
+few_command_words command.Join = omega arith
+few_command_words command.Leave = omega arith
+few_command_words (command.Insert b k s) = omega (arith, few_step_words s)
+few_command_words (command.Remove b k) = omega arith
+few_command_words (command.Replace b k s) = omega (arith, few_step_words s)
+few_command_words (command.Fork b k name) = omega arith
+few_command_words (command.Detach b) = omega arith
+few_command_words (command.Drop b) = omega arith
+few_command_words (command.Go b k) = omega arith
+few_command_words command.Seek = omega arith
+few_command_words command.Back = omega arith
+few_command_words (command.Break br) = omega (arith, few_break_words br)
+few_command_words (command.Clear br) = omega (arith, few_break_words br)
 
-query_few : (q : Query) → length (query_words q) ≤ 6
-query_few (State b k) = omega arith
-query_few (Process b k p) = omega arith
-query_few (Bits b k) = omega arith
-query_few (Pending b k) = omega arith
-query_few (History b k) = omega arith
-query_few (Verdict b k) = omega arith
-query_few Branches = omega arith
-query_few (Cursor who) = omega arith
-query_few (Steps b) = omega arith
+few_query_words : (q : Query) → length (query_words q) ≤ 6
+few_query_words (State b k) = omega arith
+few_query_words (Process b k p) = omega arith
+few_query_words (Bits b k) = omega arith
+few_query_words (Pending b k) = omega arith
+few_query_words (History b k) = omega arith
+few_query_words (Verdict b k) = omega arith
+few_query_words Branches = omega arith
+few_query_words (Cursor who) = omega arith
+few_query_words (Steps b) = omega arith
 
-request_few : (r : Request) → length (request_words r) ≤ 7
-request_few (Act None c) = omega (arith, command_few c)
-request_few (Act (Some edits) c) = omega (arith, command_few c)
-request_few (Look q) = omega (arith, query_few q)
-request_few (Fill b) = omega arith
+few_request_words : (r : Request) → length (request_words r) ≤ 7
+few_request_words (Act None c) = omega (arith, few_command_words c)
+few_request_words (Act (Some edits) c) = omega (arith, few_command_words c)
+few_request_words (Look q) = omega (arith, few_query_words q)
+few_request_words (Fill b) = omega arith
 
-pub few_words : (c : Call) → length (call_words c) ≤ 8
-few_words c = omega (arith, request_few c.request)
+pub few_call_words : (c : Call) → length (call_words c) ≤ 8
+few_call_words c = omega (arith, few_request_words c.request)

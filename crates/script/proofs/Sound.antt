@@ -1,4 +1,5 @@
--- Words that are read as a call are that call's words.
+-- Reading is sound: words that are read as a call are that call's words. X_shows says so of the
+-- words that X reads.
 use Rattle.std.proofs.Common.{◌≡◌, ◌==◌, ℕ, true, cond, List, [], ◌∷◌, Option, Some, None, refl, sym, ap, ◌∙◌, subst}
 use Rattle.std.specs.Prelude.{codes}
 use Rattle.std.specs.Fmt.{decimal}
@@ -16,7 +17,7 @@ use Rattle.sessions.specs.declared.command.Command.{Command}
 use Rattle.sessions.specs.declared.command.Command.TheVariants as command
 use Rattle.words.specs.Words.{next, after_next, is_end, number, one_number, two_numbers}
 use Rattle.words.specs.Steps.{step_of_words}
-use Rattle.words.proofs.Steps.{some_then}
+use Rattle.words.proofs.Options.{some_then}
 use Rattle.script.specs.declared.verb.Verb.{Verb}
 use Rattle.script.specs.declared.verb.Verb.TheVariants as verb
 use Rattle.script.specs.declared.verb.LookVerb.{LookVerb}
@@ -26,11 +27,11 @@ use Rattle.script.specs.declared.verb.CommandVerb.TheVariants as command_verb
 use Rattle.script.specs.declared.call.Request.{Request}
 use Rattle.script.specs.declared.call.Request.TheVariants.{Act, Look, Fill}
 use Rattle.script.specs.declared.call.Call.{Call}
-use Rattle.script.specs.Lines.{branch_word, only_branch, branch_and_place, place_in, place_and_rest, kind_of, break_of, verb_of, look_of, command_of, guarded_by, guarded, request_by, request_of, call_of}
+use Rattle.script.specs.Lines.{branch_word, only_branch, branch_and_place, place_in, place_and_rest, one_word_break, break_of, verb_of, look_of, command_of, guarded_by, guarded, request_by, request_of, call_of}
 use Rattle.script.specs.Spelling.{Word, step_words, break_words, place_words, command_words, query_words, request_words, call_words, IsOwn}
 use Rattle.script.specs.Spelling.{Text, Number, Guard}
 use Rattle.script.proofs.Verbs.{verb_text, word_is_verb_text}
-use Rattle.script.proofs.Shapes.{call_with, is_small, Shows, one_more_shown, first_shown, none_shown, keyword_shown, first_word, either, when_some, mapped_to, if_no_more_to, some_to, number_shows, branch_word_shows, one_shows, two_shows}
+use Rattle.script.proofs.Shapes.{call_with, is_small, Shows, one_more_shown, first_shown, none_shown, keyword_shown, first_word, either, when_some, mapped_to, if_no_more_to, some_to, number_shows, branch_word_shows, one_number_shows, two_numbers_shows}
 
 only_branch_shows : (ws : List (List ℕ)) (b : List ℕ) → only_branch ws ≡ Some b → Shows ws (Text b ∷ [])
 only_branch_shows ws b h =
@@ -45,10 +46,10 @@ branch_and_place_shows ws p h =
     let k = some_then (one_number (after_next ws)) (λ k. Some (a.1, k)) p a.4 in
     let s = branch_word_shows a.0 a.1 a.3 in
     subst (λ (q : List ℕ × ℕ). Shows ws (place_words q.0 q.1)) (same_Some (a.1, k.0) p k.2)
-    (first_shown ws a.0 (Text a.1) (Number k.0 ∷ []) a.2 s.0 s.1 (one_shows (after_next ws) k.0 k.1))
+    (first_shown ws a.0 (Text a.1) (Number k.0 ∷ []) a.2 s.0 s.1 (one_number_shows (after_next ws) k.0 k.1))
 
--- if `read` reads words of this shape, `placed read` reads a branch's name, a place, and then words
--- of this shape
+-- if `read` reads words of this shape, `place_and_rest read` reads a branch's name, a place, and
+-- then words of this shape
 module _ {A : Type 0} (read : List (List ℕ) → Option A) (shape : A → List Word) (reads : (ws : List (List ℕ)) (x : A) → read ws ≡ Some x → Shows ws (shape x)) where
   place_and_rest_shows : (ws : List (List ℕ)) (p : List ℕ × ℕ × A) → place_and_rest read ws ≡ Some p → Shows ws (Text p.0 ∷ Number p.1 ∷ shape p.2)
   place_and_rest_shows ws p h =
@@ -64,21 +65,21 @@ module _ {A : Type 0} (read : List (List ℕ) → Option A) (shape : A → List 
       first_shown ws a.0 (Text a.1) (Number k.1 ∷ shape x.0) a.2 s.0 s.1 (first_shown (after_next ws) k.0 (Number k.1) (shape x.0) k.2 t.0 t.1 (reads left x.0 x.1)) in
       subst (λ r. Shows ws (words_of r)) (ap (λ (place : List ℕ × ℕ). (place.0, place.1, x.0)) (same_Some (a.1, k.1) q.0 k.4) ∙ same_Some (q.0.0, q.0.1, x.0) p x.2) shown
 
-step_of_shows : (ws : List (List ℕ)) (s : Step) → step_of_words ws ≡ Some s → Shows ws (step_words s)
-step_of_shows ws s h =
+step_of_words_shows : (ws : List (List ℕ)) (s : Step) → step_of_words ws ≡ Some s → Shows ws (step_words s)
+step_of_words_shows ws s h =
     let P : Step → Type 0 = λ x. Shows ws (step_words x) in
     either {P = P s} (bytes_eq (next ws) (codes "w")) (option_map (λ (n : ℕ × ℕ). step.Write n.0 n.1) (two_numbers (after_next ws))) _ s
-    (λ b. mapped_to P (λ (n : ℕ × ℕ). step.Write n.0 n.1) (two_numbers (after_next ws)) s (λ n e. keyword_shown ws (codes "w") (Number n.0 ∷ Number n.1 ∷ []) refl b (two_shows (after_next ws) n e)))
+    (λ b. mapped_to P (λ (n : ℕ × ℕ). step.Write n.0 n.1) (two_numbers (after_next ws)) s (λ n e. keyword_shown ws (codes "w") (Number n.0 ∷ Number n.1 ∷ []) refl b (two_numbers_shows (after_next ws) n e)))
     (either {P = P s} (bytes_eq (next ws) (codes "r")) (option_map (λ (p : ℕ). step.Read p) (one_number (after_next ws))) _ s
-    (λ b. mapped_to P (λ (p : ℕ). step.Read p) (one_number (after_next ws)) s (λ p e. keyword_shown ws (codes "r") (Number p ∷ []) refl b (one_shows (after_next ws) p e)))
+    (λ b. mapped_to P (λ (p : ℕ). step.Read p) (one_number (after_next ws)) s (λ p e. keyword_shown ws (codes "r") (Number p ∷ []) refl b (one_number_shows (after_next ws) p e)))
     (either {P = P s} (bytes_eq (next ws) (codes "g")) (option_map (λ (n : ℕ × ℕ). step.Go n.0 n.1) (two_numbers (after_next ws))) _ s
-    (λ b. mapped_to P (λ (n : ℕ × ℕ). step.Go n.0 n.1) (two_numbers (after_next ws)) s (λ n e. keyword_shown ws (codes "g") (Number n.0 ∷ Number n.1 ∷ []) refl b (two_shows (after_next ws) n e)))
+    (λ b. mapped_to P (λ (n : ℕ × ℕ). step.Go n.0 n.1) (two_numbers (after_next ws)) s (λ n e. keyword_shown ws (codes "g") (Number n.0 ∷ Number n.1 ∷ []) refl b (two_numbers_shows (after_next ws) n e)))
     (either {P = P s} (bytes_eq (next ws) (codes "x")) (option_map (λ (p : ℕ). step.Stop p) (one_number (after_next ws))) None s
-    (λ b. mapped_to P (λ (p : ℕ). step.Stop p) (one_number (after_next ws)) s (λ p e. keyword_shown ws (codes "x") (Number p ∷ []) refl b (one_shows (after_next ws) p e)))
+    (λ b. mapped_to P (λ (p : ℕ). step.Stop p) (one_number (after_next ws)) s (λ p e. keyword_shown ws (codes "x") (Number p ∷ []) refl b (one_number_shows (after_next ws) p e)))
     (λ e. absurd cc)))) h
 
-kind_of_shows : (ws : List (List ℕ)) (br : Break) → is_end (after_next ws) ≡ true → kind_of (next ws) ≡ Some br → Shows ws (break_words br)
-kind_of_shows ws br ended h =
+one_word_break_shows : (ws : List (List ℕ)) (br : Break) → is_end (after_next ws) ≡ true → one_word_break (next ws) ≡ Some br → Shows ws (break_words br)
+one_word_break_shows ws br ended h =
     let P : Break → Type 0 = λ x. Shows ws (break_words x) in
     let none = none_shown (after_next ws) ended in
     either {P = P br} (bytes_eq (next ws) (codes "chosen")) (Some break.Chosen) _ br (λ b. some_to P break.Chosen br (keyword_shown ws (codes "chosen") [] refl b none))
@@ -90,10 +91,10 @@ break_of_shows : (ws : List (List ℕ)) (br : Break) → break_of ws ≡ Some br
 break_of_shows ws br h =
     let P : Break → Type 0 = λ x. Shows ws (break_words x) in
     either {P = P br} (bytes_eq (next ws) (codes "returns")) (option_map break.Returns (one_number (after_next ws))) _ br
-    (λ b. mapped_to P break.Returns (one_number (after_next ws)) br (λ p e. keyword_shown ws (codes "returns") (Number p ∷ []) refl b (one_shows (after_next ws) p e)))
-    (either {P = P br} (bytes_eq (next ws) (codes "bit")) (option_map (λ (n : ℕ × ℕ). break.Bit n.0 n.1) (two_numbers (after_next ws))) (cond (is_end (after_next ws)) (kind_of (next ws)) None) br
-    (λ b. mapped_to P (λ (n : ℕ × ℕ). break.Bit n.0 n.1) (two_numbers (after_next ws)) br (λ n e. keyword_shown ws (codes "bit") (Number n.0 ∷ Number n.1 ∷ []) refl b (two_shows (after_next ws) n e)))
-    (λ e. let a = when_some (is_end (after_next ws)) (kind_of (next ws)) br e in kind_of_shows ws br a.0 a.1)) h
+    (λ b. mapped_to P break.Returns (one_number (after_next ws)) br (λ p e. keyword_shown ws (codes "returns") (Number p ∷ []) refl b (one_number_shows (after_next ws) p e)))
+    (either {P = P br} (bytes_eq (next ws) (codes "bit")) (option_map (λ (n : ℕ × ℕ). break.Bit n.0 n.1) (two_numbers (after_next ws))) (cond (is_end (after_next ws)) (one_word_break (next ws)) None) br
+    (λ b. mapped_to P (λ (n : ℕ × ℕ). break.Bit n.0 n.1) (two_numbers (after_next ws)) br (λ n e. keyword_shown ws (codes "bit") (Number n.0 ∷ Number n.1 ∷ []) refl b (two_numbers_shows (after_next ws) n e)))
+    (λ e. let a = when_some (is_end (after_next ws)) (one_word_break (next ws)) br e in one_word_break_shows ws br a.0 a.1)) h
 
 -- ---- the words after a first word
 
@@ -113,9 +114,9 @@ module _ (ws : List (List ℕ)) where
   command_shows command_verb.Go c b h = mapped_to IsCommandShown (λ (p : List ℕ × ℕ). command.Go p.0 p.1) (branch_and_place left) c (λ a e. keyword_shown ws (codes "go") (place_words a.0 a.1) refl b (branch_and_place_shows left a e)) h
   command_shows command_verb.Break c b h = mapped_to IsCommandShown command.Break (break_of left) c (λ a e. keyword_shown ws (codes "break") (break_words a) refl b (break_of_shows left a e)) h
   command_shows command_verb.Clear c b h = mapped_to IsCommandShown command.Clear (break_of left) c (λ a e. keyword_shown ws (codes "clear") (break_words a) refl b (break_of_shows left a e)) h
-  command_shows command_verb.Insert c b h = mapped_to IsCommandShown (λ (p : List ℕ × ℕ × Step). command.Insert p.0 p.1 p.2) (place_and_rest step_of_words left) c (λ a e. keyword_shown ws (codes "insert") (Text a.0 ∷ Number a.1 ∷ step_words a.2) refl b (place_and_rest_shows step_of_words step_words step_of_shows left a e)) h
+  command_shows command_verb.Insert c b h = mapped_to IsCommandShown (λ (p : List ℕ × ℕ × Step). command.Insert p.0 p.1 p.2) (place_and_rest step_of_words left) c (λ a e. keyword_shown ws (codes "insert") (Text a.0 ∷ Number a.1 ∷ step_words a.2) refl b (place_and_rest_shows step_of_words step_words step_of_words_shows left a e)) h
   command_shows command_verb.Remove c b h = mapped_to IsCommandShown (λ (p : List ℕ × ℕ). command.Remove p.0 p.1) (branch_and_place left) c (λ a e. keyword_shown ws (codes "remove") (place_words a.0 a.1) refl b (branch_and_place_shows left a e)) h
-  command_shows command_verb.Replace c b h = mapped_to IsCommandShown (λ (p : List ℕ × ℕ × Step). command.Replace p.0 p.1 p.2) (place_and_rest step_of_words left) c (λ a e. keyword_shown ws (codes "replace") (Text a.0 ∷ Number a.1 ∷ step_words a.2) refl b (place_and_rest_shows step_of_words step_words step_of_shows left a e)) h
+  command_shows command_verb.Replace c b h = mapped_to IsCommandShown (λ (p : List ℕ × ℕ × Step). command.Replace p.0 p.1 p.2) (place_and_rest step_of_words left) c (λ a e. keyword_shown ws (codes "replace") (Text a.0 ∷ Number a.1 ∷ step_words a.2) refl b (place_and_rest_shows step_of_words step_words step_of_words_shows left a e)) h
   command_shows command_verb.Fork c b h = mapped_to IsCommandShown (λ (p : List ℕ × ℕ × List ℕ). command.Fork p.0 p.1 p.2) (place_and_rest only_branch left) c (λ a e. keyword_shown ws (codes "fork") (Text a.0 ∷ Number a.1 ∷ Text a.2 ∷ []) refl b (place_and_rest_shows only_branch (λ name. Text name ∷ []) only_branch_shows left a e)) h
   command_shows command_verb.Detach c b h = mapped_to IsCommandShown command.Detach (only_branch left) c (λ a e. keyword_shown ws (codes "detach") (Text a ∷ []) refl b (only_branch_shows left a e)) h
   command_shows command_verb.Drop c b h = mapped_to IsCommandShown command.Drop (only_branch left) c (λ a e. keyword_shown ws (codes "drop") (Text a ∷ []) refl b (only_branch_shows left a e)) h
@@ -128,7 +129,7 @@ module _ (ws : List (List ℕ)) where
   look_shows session look.Branches q b h = if_no_more_to (IsLookShown session) Branches q left (λ e. (keyword_shown ws (codes "branches") [] refl b (none_shown left e), tt)) h
   look_shows session look.Cursor q b h = if_no_more_to (IsLookShown session) (Cursor session) q left (λ e. (keyword_shown ws (codes "cursor") [] refl b (none_shown left e), refl)) h
   look_shows session look.Steps q b h = mapped_to (IsLookShown session) Steps (only_branch left) q (λ a e. (keyword_shown ws (codes "steps") (Text a ∷ []) refl b (only_branch_shows left a e), tt)) h
-  look_shows session look.Process q b h = mapped_to (IsLookShown session) (λ (p : List ℕ × ℕ × ℕ). Process p.0 p.1 p.2) (place_and_rest one_number left) q (λ a e. (keyword_shown ws (codes "process") (Text a.0 ∷ Number a.1 ∷ Number a.2 ∷ []) refl b (place_and_rest_shows one_number (λ p. Number p ∷ []) one_shows left a e), tt)) h
+  look_shows session look.Process q b h = mapped_to (IsLookShown session) (λ (p : List ℕ × ℕ × ℕ). Process p.0 p.1 p.2) (place_and_rest one_number left) q (λ a e. (keyword_shown ws (codes "process") (Text a.0 ∷ Number a.1 ∷ Number a.2 ∷ []) refl b (place_and_rest_shows one_number (λ p. Number p ∷ []) one_number_shows left a e), tt)) h
   look_shows session look.State q b h = mapped_to (IsLookShown session) (λ (p : List ℕ × ℕ). State p.0 p.1) (branch_and_place left) q (λ a e. (keyword_shown ws (codes "state") (place_words a.0 a.1) refl b (branch_and_place_shows left a e), tt)) h
   look_shows session look.Pending q b h = mapped_to (IsLookShown session) (λ (p : List ℕ × ℕ). Pending p.0 p.1) (branch_and_place left) q (λ a e. (keyword_shown ws (codes "pending") (place_words a.0 a.1) refl b (branch_and_place_shows left a e), tt)) h
   look_shows session look.Bits q b h = mapped_to (IsLookShown session) (λ (p : List ℕ × ℕ). Bits p.0 p.1) (branch_and_place left) q (λ a e. (keyword_shown ws (codes "bits") (place_words a.0 a.1) refl b (branch_and_place_shows left a e), tt)) h

@@ -1,4 +1,4 @@
--- The first words of requests, and what each selects.
+-- The first words of requests: a verb's own word, and no other, selects it.
 use Rattle.std.proofs.Common.{◌≡◌, ℕ, Bool, true, List, [], ◌∷◌, length, Some, sym, ap, subst, refl}
 use Rattle.std.specs.Prelude.{codes}
 use Rattle.std.specs.List.{list_all}
@@ -6,7 +6,7 @@ use Rattle.std.specs.Str.{bytes_eq}
 use Rattle.std.proofs.lemmas.Bool.{and_parts}
 use Rattle.std.proofs.lemmas.Option.{same_Some}
 use Rattle.std.proofs.lemmas.Slice.Eq.{HasBytesAt, text_from_reads}
-use Rattle.words.proofs.Steps.{is_word}
+use Rattle.words.proofs.NumberWords.{same_word}
 use Rattle.script.specs.declared.verb.Verb.{Verb}
 use Rattle.script.specs.declared.verb.Verb.TheVariants as verb
 use Rattle.script.specs.declared.verb.LookVerb.TheVariants as look
@@ -53,7 +53,7 @@ word_is_verb_text_in [] word v all h = absurd cc
 word_is_verb_text_in (row ∷ rows) word v all h =
     let a = and_parts (is_own_row row) (list_all is_own_row rows) all in
     either (bytes_eq word row.0) (Some row.1) (verb_in rows word) v
-    (λ b e. subst (λ (x : Verb). bytes_eq word (verb_text x) ≡ true) (same_Some row.1 v e) (subst (λ (t : List ℕ). bytes_eq word t ≡ true) (is_word row.0 (verb_text row.1) a.0) b))
+    (λ b e. subst (λ (x : Verb). bytes_eq word (verb_text x) ≡ true) (same_Some row.1 v e) (subst (λ (t : List ℕ). bytes_eq word t ≡ true) (same_word row.0 (verb_text row.1) a.0) b))
     (word_is_verb_text_in rows word v a.1) h
 
 -- only a verb's own word selects it

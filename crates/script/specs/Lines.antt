@@ -61,8 +61,8 @@ abbrev pub if_no_more : {A : Type 0} → A → List (List ℕ) → Option A
 if_no_more it ws = if is_end ws then Some it else None
 
 -- reads a break that is spelled by one word: `chosen`, `void` or `refused`
-abbrev pub kind_of : List ℕ → Option Break
-kind_of word =
+abbrev pub one_word_break : List ℕ → Option Break
+one_word_break word =
     if bytes_eq word (codes "chosen") then Some break.Chosen
     else (if bytes_eq word (codes "void") then Some break.Void
     else (if bytes_eq word (codes "refused") then Some break.Refused
@@ -74,7 +74,7 @@ abbrev pub break_of : List (List ℕ) → Option Break
 break_of ws =
     if bytes_eq (next ws) (codes "returns") then option_map break.Returns (one_number (after_next ws))
     else (if bytes_eq (next ws) (codes "bit") then option_map (λ n. break.Bit n.0 n.1) (two_numbers (after_next ws))
-    else (if is_end (after_next ws) then kind_of (next ws) else None))
+    else (if is_end (after_next ws) then one_word_break (next ws) else None))
 
 -- the first word of each request, and what it selects
 abbrev pub verb_words : List (List ℕ × Verb)

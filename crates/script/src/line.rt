@@ -22,7 +22,7 @@ use words::parts::Parts;
 use words::step::{is_word, step_of};
 
 /// The most bytes of a call.
-const MOST_BYTES: usize = 255;
+const MOST_CALL_BYTES: usize = 255;
 
 /// What a line says: nothing if it is empty or begins with `#`; otherwise the call that it spells;
 /// or that it is bad, if it spells no call.
@@ -36,14 +36,15 @@ pub fn read_line(line: &[u8]) -> Line
     reading(line)
 }
 
-/// Reads a line, which is blank, bad, or the number of a session and then its request.
+/// Reads a line, which is blank, bad, or the number of a session and then its request. `read_line`
+/// only calls this, and draws its other clauses from the one here.
 fn reading(line: &[u8]) -> Line
     ensures { result ≡ spec.read_line line.now }
 {
     if matches!(line.first(), None | Some(b'#')) {
         return Line::Blank;
     }
-    if line.len() > MOST_BYTES || !are_call_bytes(line) {
+    if line.len() > MOST_CALL_BYTES || !are_call_bytes(line) {
         return Line::Bad;
     }
     let words = &mut Parts::new(line, b' ');
@@ -59,11 +60,11 @@ fn are_call_bytes(line: &[u8]) -> bool
     ensures { result ≡ list_all spec.is_call_byte line.now }
 {
     // Without an early exit, many bytes can be tested at once.
-    let mut plain = true;
+    let mut all = true;
     for byte in line {
-        plain &= 0x20 <= *byte && *byte <= 0x7e;
+        all &= 0x20 <= *byte && *byte <= 0x7e;
     }
-    plain
+    all
 }
 
 /// Reads a session's request that begins with this word.
@@ -165,12 +166,16 @@ fn break_of(words: &mut Parts<'_>) -> Option<Break>
         let (bit, value) = two_numbers(words)?;
         return Some(Break::Bit(bit, value));
     }
-    if words.is_end() { kind_of(word) } else { None }
+    if words.is_end() {
+        one_word_break(word)
+    } else {
+        None
+    }
 }
 
 /// The break that is spelled by this word alone.
-fn kind_of(word: &[u8]) -> Option<Break>
-    ensures { result ≡ spec.kind_of word.now }
+fn one_word_break(word: &[u8]) -> Option<Break>
+    ensures { result ≡ spec.one_word_break word.now }
 {
     if is_word(word, "chosen") {
         Some(Break::Chosen)

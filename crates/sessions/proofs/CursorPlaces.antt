@@ -1,19 +1,17 @@
 -- Cursors are within their branches, also after an edit.
-use Rattle.std.proofs.Common.{◌≡◌, ℕ, zero, suc, ◌+◌, ◌<◌, ◌≤◌, Bool, true, false, not, ◌&&◌, ◌||◌, cond, nat_eq, nat_lt, nat_le, List, [], ◌∷◌, ◌++◌, length, map, take, slice_get, get_or, Option, Some, None, Ok, Err, IfOk, is_some, refl, sym, ap, subst, ◌∙◌, true≢false, arith}
+use Rattle.std.proofs.Common.{◌≡◌, ℕ, zero, suc, ◌+◌, ◌<◌, ◌≤◌, Bool, true, false, not, ◌&&◌, cond, nat_eq, nat_lt, nat_le, List, [], ◌∷◌, ◌++◌, length, map, take, slice_get, get_or, Option, Some, None, Ok, Err, IfOk, is_some, refl, sym, ap, subst, ◌∙◌, true≢false, arith}
 use Rattle.std.specs.Option.{option_map, IfSome}
 use Rattle.std.specs.List.{position, position_or_len, remove, list_any}
 use Rattle.std.specs.Cmp.Lexicographic.{pointwise, nat_list_eq_equiv}
-use Rattle.std.proofs.lemmas.Bool.Decides.{nat_tests}
 use Rattle.std.proofs.lemmas.List.{length-append, length-map, length-take-le, get_or-set_same, get_or-set_other}
-use Rattle.std.specs.List.{IsDistinct, AllByRecursion}
 use Rattle.std.specs.Prelude.{slice_set}
-use Rattle.std.proofs.lemmas.Map.Steps.{length-le_from_distinct_below}
 use Rattle.std.proofs.lemmas.List.Folds.{list_any_at}
 use Rattle.std.proofs.Math.ListN.{get_or-map}
 use Rattle.std.proofs.lemmas.List.Quantifiers.{position-Some}
 use Rattle.std.proofs.lemmas.List.Sums.{fails_before_first}
 use Rattle.std.proofs.lemmas.Option.{slice_get-get_or, slice_get_within, slice_get_past, get_or_from_slice_get}
-use Rattle.std.proofs.lemmas.Bool.{and_parts, leb-false, ltb-false, ltb-true}
+use Rattle.std.proofs.lemmas.Bool.{and_parts, eqb-true, eqb-false, le-ltb, leb-false, ltb-false, ltb-true}
+use Rattle.branch_terms.proofs.LimbLists.{length-numbered}
 use Rattle.branch_terms.proofs.Lists.{cell_in_at}
 use Rattle.schedule_trie.proofs.branches.NamesApart.{found_apart}
 use Rattle.frames.specs.declared.types.Step.{Step}
@@ -25,25 +23,15 @@ use Rattle.schedule_trie.specs.Edits.{Edit, Insert, Remove, Replace, Fork, Detac
 use Rattle.schedule_trie.specs.Forest as forests
 use Rattle.schedule_trie.specs.Forest.{Forest, Branch, IsForest, AreNamedApart, index_of, slots_in, name_in, name_of, everywhere, only_in, put_before, put_last, without, is_cell, cell_in, cell_of, cell_on_branch, cell_by, place_of, place_by, len_of}
 use Rattle.cutoff.specs.Charts.{looked_at}
+use Rattle.pages.proofs.Linearizations.{some_if_is_some}
 use Rattle.views.specs.Looks.{steps_in}
 use Rattle.views.proofs.Spots.{len_is_step_count}
 use Rattle.sessions.specs.declared.cursor.Cursor.{Cursor}
 use Rattle.sessions.specs.declared.cursor.Shift.{Shift}
 use Rattle.sessions.specs.declared.cursor.Shift.TheVariants as shift
 use Rattle.sessions.specs.Edits.{moved_by, drops_occupied}
-use Rattle.sessions.specs.Bounds.{AreWithin}
 use Rattle.sessions.specs.Cursors.{AreAtPlaces, first_cursor, IsAtPlace, cursor_at, each_cursor, is_occupied, is_on_branch, cursor, acts_in, is_shifted_by, shifted, shifted_place}
-use Rattle.branch_terms.specs.declared.limits.TheConstants.{MOST_CELLS_MADE}
 use Rattle.sessions.proofs.EditCases.{tested_ok, found_ok, from_ok}
-
-lt_false : (a b : ℕ) → b ≤ a → nat_lt a b ≡ false
-lt_false a b h = grind (arith, nat_tests)
-
-same_number : (a b : ℕ) → nat_eq a b ≡ true → a ≡ b
-same_number a b e = grind (arith, nat_tests)
-
-other_number : (a b : ℕ) → nat_eq a b ≡ false → a ≡ b → ⊥
-other_number a b e same = grind (arith, nat_tests)
 
 same_name : (xs ys : List ℕ) → pointwise nat_eq xs ys ≡ true → xs ≡ ys
 same_name [] [] e = refl
@@ -54,7 +42,7 @@ same_name (x ∷ xs) (y ∷ ys) e = by (same_name xs ys) (nat_eq x y) refl e
     by : (pointwise nat_eq xs ys ≡ true → xs ≡ ys) → (b : Bool) → nat_eq x y ≡ b → (b && pointwise nat_eq xs ys) ≡ true → x ∷ xs ≡ y ∷ ys
     by rest true h g =
         let following : xs ≡ ys = rest g in
-        let here : x ≡ y = same_number x y h in
+        let here : x ≡ y = eqb-true x y h in
         cc
     by rest false h g = cc
 
@@ -86,7 +74,7 @@ within_branch f c e =
 pub at_place_if_within : (f : Forest) (c : Cursor) → AreNamedApart f.branches → IsWithinBranch f.branches c → IsAtPlace f c
 at_place_if_within f c apart s =
     ap (λ o. forests.on_found o (looked_at f c.place)) (found_apart f.branches s.index c.branch apart s.named)
-    ∙ ap (λ b. cond b (Err NoPlace) (Ok f)) (lt_false (length (slots_in f.branches s.index)) c.place s.within)
+    ∙ ap (λ b. cond b (Err NoPlace) (Ok f)) (le-ltb (length (slots_in f.branches s.index)) c.place s.within)
 
 -- a cursor's place still exists if the branches keep their names and none of them is shorter
 pub on_longer : (bs cs : List Branch) (c : Cursor) → map name_of cs ≡ map name_of bs → ((j : ℕ) → length (slots_in bs j) ≤ length (slots_in cs j)) → IsWithinBranch bs c → IsWithinBranch cs c
@@ -131,7 +119,7 @@ module _ (x : ℕ) (new : Slot) where
     where
       by : length ys ≤ length (put_before x new ys) → (b : Bool) → nat_eq y.cell x ≡ b → suc (suc (length ys)) ≤ length (cond b (new ∷ y ∷ []) (y ∷ []) ++ put_before x new ys)
       by rest true g = omega arith
-      by rest false g = let same : y ≡ s = cc in absurd (other_number y.cell x g (ap (λ z. z.cell) same ∙ h))
+      by rest false g = let same : y ≡ s = cc in absurd (eqb-false y.cell x g (ap (λ z. z.cell) same ∙ h))
   put_one_more (y ∷ ys) (suc k) s e h = by (put_one_more ys k s e h) (nat_eq y.cell x)
     where
       by : suc (length ys) ≤ length (put_before x new ys) → (b : Bool) → suc (suc (length ys)) ≤ length (cond b (new ∷ y ∷ []) (y ∷ []) ++ put_before x new ys)
@@ -152,7 +140,7 @@ without_none x [] h = omega arith
 without_none x (y ∷ ys) h = by (without_none x ys (λ k s e c. h (suc k) s e c)) (nat_eq y.cell x) refl
   where
     by : length ys ≤ length (without x ys) → (b : Bool) → nat_eq y.cell x ≡ b → suc (length ys) ≤ length (cond (not b) (y ∷ without x ys) (without x ys))
-    by rest true e = absurd (h 0 y refl (same_number y.cell x e))
+    by rest true e = absurd (h 0 y refl (eqb-true y.cell x e))
     by rest false e = omega arith
 
 -- if at most one cell has the number x, removing the cells with this number removes at most one
@@ -164,14 +152,14 @@ without_one x (y ∷ ys) h = by (without_one x ys (λ k l s t d e a b. let same 
     lacks e k s at c = let same : 0 ≡ suc k = h 0 (suc k) y s refl at e c in omega arith
 
     by : length ys ≤ suc (length (without x ys)) → (b : Bool) → nat_eq y.cell x ≡ b → suc (length ys) ≤ suc (length (cond (not b) (y ∷ without x ys) (without x ys)))
-    by rest true e = let all = without_none x ys (lacks (same_number y.cell x e)) in omega arith
+    by rest true e = let all = without_none x ys (lacks (eqb-true y.cell x e)) in omega arith
     by rest false e = omega arith
 
 -- if place k was found for the number x, there is a cell at k, and its number is x
 pub cell_found : (x k : ℕ) (slots : List Slot) (d : Slot) → position (is_cell x) slots ≡ Some k → (s : Slot) × (slice_get slots k ≡ Some s) × (s.cell ≡ x)
 cell_found x k slots d e =
     let p = position-Some (is_cell x) slots k d e in
-    (get_or slots k d, slice_get-get_or slots k d p.0, same_number (get_or slots k d).cell x p.1)
+    (get_or slots k d, slice_get-get_or slots k d p.0, eqb-true (get_or slots k d).cell x p.1)
 
 -- if no place was found for the number x, no cell has this number
 pub cell_lacked : (x : ℕ) (slots : List Slot) → position (is_cell x) slots ≡ None → HasNoCell x slots
@@ -188,20 +176,16 @@ cell_lacked x slots e k s at c = by (nat_lt (position_or_len (is_cell x) slots) 
     by false h g =
         let past : length slots ≤ position_or_len (is_cell x) slots = ltb-false (position_or_len (is_cell x) slots) (length slots) h in
         let other : is_cell x (get_or slots k s) ≡ false = fails_before_first (is_cell x) slots k s (omega (arith, inside)) in
-        other_number s.cell x (ap (is_cell x) (sym here) ∙ other) c
+        eqb-false s.cell x (ap (is_cell x) (sym here) ∙ other) c
 
 pub slot_at_place : (slots : List Slot) (k : ℕ) → k < length slots → (s : Slot) × (slice_get slots k ≡ Some s)
 slot_at_place [] k h = absurd (omega arith)
 slot_at_place (y ∷ ys) zero h = (y, refl)
 slot_at_place (y ∷ ys) (suc k) h = slot_at_place ys k (omega arith)
 
-value_if_some : (o : Option ℕ) → is_some o ≡ true → (k : ℕ) × (o ≡ Some k)
-value_if_some None e = absurd (cc)
-value_if_some (Some k) e = (k, refl)
-
 -- cells of one branch that have the same number are at the same place
-same_place : (f : Forest) → IsForest f → (j k l : ℕ) (s t : Slot) → slice_get (slots_in f.branches j) k ≡ Some s → slice_get (slots_in f.branches j) l ≡ Some t → s.cell ≡ t.cell → k ≡ l
-same_place f held j k l s t d e c =
+pub same_cell_same_place : (f : Forest) → IsForest f → (j k l : ℕ) (s t : Slot) → slice_get (slots_in f.branches j) k ≡ Some s → slice_get (slots_in f.branches j) l ≡ Some t → s.cell ≡ t.cell → k ≡ l
+same_cell_same_place f held j k l s t d e c =
     let slots = slots_in f.branches j in
     let shared : take (suc k) slots ≡ take (suc l) slots = held.shared j j k l s t d e c in
     let within_k : k < length slots = slice_get_within slots k s d in
@@ -244,7 +228,7 @@ module _ (f : Forest) (held : IsForest f) (name : List ℕ) (place i : ℕ) (fou
   shifted_after : (t : Slot) → slice_get here place ≡ Some t → is_shifted_by f name place c ≡ true → ((k : ℕ) × (position (is_cell t.cell) there ≡ Some k)) × (place < c.place)
   shifted_after t at e =
       let p = and_parts (is_some (place_of f c.branch t.cell)) (nat_lt place c.place) (ap (λ o. acts_in o f name c.branch && nat_lt place c.place) (sym (cell_is t at)) ∙ e) in
-      (value_if_some (position (is_cell t.cell) there) (ap is_some (sym (place_of_is t.cell)) ∙ p.0), ltb-true place c.place p.1)
+      (some_if_is_some (position (is_cell t.cell) there) (ap is_some (sym (place_of_is t.cell)) ∙ p.0), ltb-true place c.place p.1)
 
   shifted_within_branch : (cs : List Branch) (sh : Shift) → (is_shifted_by f name place c ≡ true → IsWithinBranch cs (cursor c.branch (shifted_place sh c.place)))
       → (is_shifted_by f name place c ≡ false → IsWithinBranch cs c) → IsWithinBranch cs (shifted sh f name place c)
@@ -277,7 +261,7 @@ module _ (f : Forest) (held : IsForest f) (name : List ℕ) (place i : ℕ) (fou
       let more = put_longer t.cell new (slots_in f.branches j) in omega arith) s)
 
   cell_once : (x : ℕ) → HasCellAtMostOnce x there
-  cell_once x k l a b e d m n = same_place f held s.index k l a b e d (m ∙ sym n)
+  cell_once x k l a b e d m n = same_cell_same_place f held s.index k l a b e d (m ∙ sym n)
 
   -- a cell has the same place in each branch that has it
   one_place : (t : Slot) → slice_get here place ≡ Some t → (k : ℕ) → position (is_cell t.cell) there ≡ Some k → (k ≡ place) × (k < length there)
@@ -363,12 +347,8 @@ other_branch_if_free name cursors who c free at = by (pointwise nat_eq name c.br
     by true e = absurd (true≢false (sym (list_any_at (is_on_branch name) cursors who None (cursor_within cursors who c at) (ap (is_on_branch name) at ∙ e)) ∙ free))
     by false e = refl
 
-length_numbered : (n : ℕ) (steps : List Step) → length (forests.numbered n steps) ≡ length steps
-length_numbered n [] = refl
-length_numbered n (s ∷ steps) = ap suc (length_numbered (suc n) steps)
-
 renumbered_longer : (n : ℕ) (l : List Slot) → length l ≤ length (forests.renumbered n l)
-renumbered_longer n l = let a = length_numbered n (map forests.step_of l) in let b = length-map l forests.step_of in omega arith
+renumbered_longer n l = let a = length-numbered n (map forests.step_of l) in let b = length-map l forests.step_of in omega arith
 
 replaced_longer : (step : Step) (x : ℕ) (l : List Slot) → length l ≤ length (forests.replaced_by step x l)
 replaced_longer step x l = let b = length-map l (forests.with_step x step) in omega arith
@@ -401,10 +381,10 @@ module _ (limits : Limits) (f : Forest) (held : IsForest f) (c : Cursor) (s : Is
           (cond b (only_in i (put_last (forests.slot f.made step)) f.branches) (everywhere (put_before (cell_in (slots_in f.branches i) place) (forests.slot f.made step)) f.branches))
           (shifted shift.Up f name place c)
       by i found within true same =
-          let last : place ≡ length (slots_in f.branches i) = same_number place (length (slots_in f.branches i)) same in
+          let last : place ≡ length (slots_in f.branches i) = eqb-true place (length (slots_in f.branches i)) same in
           insert_last f held name place i found c s (forests.slot f.made step) (omega arith)
       by i found within false other =
-          let apart = other_number place (length (slots_in f.branches i)) other in
+          let apart = eqb-false place (length (slots_in f.branches i)) other in
           let t = slot_at_place (slots_in f.branches i) place (lt_from_le place (length (slots_in f.branches i)) within apart) in
           subst (λ x. IsWithinBranch (everywhere (put_before x (forests.slot f.made step)) f.branches) (shifted shift.Up f name place c)) (sym (cell_in_at (slots_in f.branches i) place t.0 t.1))
           (insert_before f held name place i found c s (forests.slot f.made step) t.0 t.1)
@@ -484,9 +464,9 @@ put_placed f cursors who o h one all k = by (nat_eq k who) refl
   where
     by : (b : Bool) → nat_eq k who ≡ b → IfSome (cursor_at (slice_set cursors who o) k) (IsAtPlace f)
     by true e =
-        let here : cursor_at (slice_set cursors who o) k ≡ o = ap (cursor_at (slice_set cursors who o)) (same_number k who e) ∙ get_or-set_same cursors who o None h in
+        let here : cursor_at (slice_set cursors who o) k ≡ o = ap (cursor_at (slice_set cursors who o)) (eqb-true k who e) ∙ get_or-set_same cursors who o None h in
         subst (λ p. IfSome p (IsAtPlace f)) (sym here) one
-    by false e = subst (λ p. IfSome p (IsAtPlace f)) (sym (get_or-set_other cursors who k o None (other_number k who e))) (all k)
+    by false e = subst (λ p. IfSome p (IsAtPlace f)) (sym (get_or-set_other cursors who k o None (eqb-false k who e))) (all k)
 
 -- the cursor of a session that joins is at a place that exists
 pub first_placed : (f : Forest) → AreNamedApart f.branches → IfSome (first_cursor f) (IsAtPlace f)
@@ -496,53 +476,13 @@ first_placed f apart = by (name_in f.branches 0) refl
     by None e = tt
     by (Some name) e = at_place_if_within f (cursor name 0) apart (record { index = 0; named = e; within = omega arith })
 
--- if cells with the same number are at the same place, the cells' numbers all differ
-cells_apart : (slots : List Slot) → ((k l : ℕ) (s t : Slot) → slice_get slots k ≡ Some s → slice_get slots l ≡ Some t → s.cell ≡ t.cell → k ≡ l) → IsDistinct nat_eq (map cell_of slots)
-unfolding IsDistinct
-cells_apart [] h = tt
-cells_apart (y ∷ ys) h =
-    (others ys (λ k s e c. let same : 0 ≡ suc k = h 0 (suc k) y s refl e c in omega arith), cells_apart ys (λ k l s t d e c. let same : suc k ≡ suc l = h (suc k) (suc l) s t d e c in omega arith))
-  where
-    differ : (b : Bool) (z : Slot) → nat_eq y.cell z.cell ≡ b → (y.cell ≡ z.cell → ⊥) → b ≡ false
-    differ true z e apart = absurd (apart (same_number y.cell z.cell e))
-    differ false z e apart = refl
-
-    others : (zs : List Slot) → ((k : ℕ) (s : Slot) → slice_get zs k ≡ Some s → y.cell ≡ s.cell → ⊥) → AllByRecursion (λ z. nat_eq y.cell z ≡ false) (map cell_of zs)
-    others [] g = tt
-    others (z ∷ zs) g = (differ (nat_eq y.cell z.cell) z refl (g 0 z refl), others zs (λ k. g (suc k)))
-
-cells_below : (n : ℕ) (slots : List Slot) → ((k : ℕ) → IfSome (slice_get slots k) (λ s. s.cell < n)) → (q : ℕ) → list_any (nat_eq q) (map cell_of slots) ≡ true → q < n
-cells_below n [] h q e = absurd (cc)
-cells_below n (y ∷ ys) h q e = by (cells_below n ys (λ k. h (suc k)) q) (nat_eq q y.cell) refl e
-  where
-    by : (list_any (nat_eq q) (map cell_of ys) ≡ true → q < n) → (b : Bool) → nat_eq q y.cell ≡ b → (b || list_any (nat_eq q) (map cell_of ys)) ≡ true → q < n
-    by rest true g i = let same = same_number q y.cell g in let first : y.cell < n = h 0 in omega arith
-    by rest false g i = rest i
-
--- no branch has more cells than were ever made, since it has each of them at most once
-pub slots_within_made : (f : Forest) → IsForest f → (j : ℕ) → length (slots_in f.branches j) ≤ f.made
-slots_within_made f held j =
-    let slots = slots_in f.branches j in
-    let apart : IsDistinct nat_eq (map cell_of slots) = cells_apart slots (same_place f held j) in
-    let few : length (map cell_of slots) ≤ f.made = length-le_from_distinct_below (map cell_of slots) f.made apart (cells_below f.made slots (held.given j)) in
-    let same : length (map cell_of slots) ≡ length slots = length-map slots cell_of in
-    omega arith
-
--- if at most MOST_CELLS_MADE cells were ever made, cursors at places that exist are within bounds
-pub are_within : (f : Forest) (cursors : List (Option Cursor)) → IsForest f → f.made ≤ MOST_CELLS_MADE → AreAtPlaces f cursors → AreWithin cursors
-are_within f cursors held few all who = by (cursor_at cursors who) (all who)
-  where
-    by : (o : Option Cursor) → IfSome o (IsAtPlace f) → IfSome o (λ c. c.place ≤ MOST_CELLS_MADE)
-    by None h = tt
-    by (Some c) h = let s = within_branch f c h in omega (arith, s.within, slots_within_made f held s.index, few)
-
 -- a place that is at most a branch's length exists, if a cursor is on that branch
 pub place_exists : (f : Forest) (c : Cursor) (place n : ℕ) → IsAtPlace f c → len_of f c.branch ≡ Some n → place ≤ n → IsAtPlace f (cursor c.branch place)
 place_exists f c place n h len few =
     let p = found_if_looked f c.place (index_of f.branches c.branch) h in
     let lengths : Some (length (slots_in f.branches p.0)) ≡ Some n = ap (option_map (λ i. length (slots_in f.branches i))) (sym p.1) ∙ len in
     let same : length (slots_in f.branches p.0) ≡ n = cc in
-    ap (λ o. forests.on_found o (looked_at f place)) p.1 ∙ ap (λ b. cond b (Err NoPlace) (Ok f)) (lt_false (length (slots_in f.branches p.0)) place (omega arith))
+    ap (λ o. forests.on_found o (looked_at f place)) p.1 ∙ ap (λ b. cond b (Err NoPlace) (Ok f)) (le-ltb (length (slots_in f.branches p.0)) place (omega arith))
 
 -- each place up to the end of a cursor's branch exists, so the place of a hit does
 pub hit_exists : (f : Forest) (c : Cursor) (place : ℕ) → IsAtPlace f c → place < length (steps_in f c.branch) + 1

@@ -12,8 +12,8 @@ use Rattle.sessions.specs.Books.{stored, world_of}
 use Rattle.sessions.specs.declared.workspace.Workspace.{Workspace}
 
 module _ {R P : Type 0} where
-  same_kept : (old new : Charted R P) → new ≡ old → IsChartKept old new
-  same_kept old new same = record {
+  kept_if_same : (old new : Charted R P) → new ≡ old → IsChartKept old new
+  kept_if_same old new same = record {
     branches = ap (λ c. forest c.trie) same;
     limits = ap (λ c. c.trie.limits) same;
     start = ap (λ c. c.start) same;
@@ -23,8 +23,8 @@ module _ {R P : Type 0} where
   -- an install keeps the branches, whatever it answers
   pub install_kept : (E : R → R → Bool) (b : Behaviour P) (old new : Charted R P) (key : ℕ) (run : SegmentRun R P)
       (r : Installation) → Installs E b old new key run r → IsChartKept old new
-  install_kept E b old new key run Gone h = same_kept old new h.1
-  install_kept E b old new key run Stale h = same_kept old new h.2
+  install_kept E b old new key run Gone h = kept_if_same old new h.1
+  install_kept E b old new key run Stale h = kept_if_same old new h.2
   install_kept E b old new key run Installed h =
       let noted = h.2.noted.3 in
       let checked = h.2.noted.4 in

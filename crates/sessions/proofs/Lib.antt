@@ -1,4 +1,4 @@
-pub mod Answered
+pub mod CommandAnswers
 pub mod LegalLogs
 pub mod LoggedReplies
 pub mod Books
@@ -6,15 +6,16 @@ pub mod Searches
 pub mod Runs
 pub mod NextHits
 pub mod Looks
-pub mod General
 pub mod EditCases
 pub mod CellsMade
 pub mod CursorPlaces
+pub mod CursorBounds
 pub mod Sound
 pub mod UnmovedCursors
 pub mod EditAnswers
-pub mod Loads
-pub mod Openings
+pub mod NewBooks
+pub mod Saves
+pub mod SameStart
 pub mod KeptBranches
 pub mod BreakAnswers
 pub mod SeekAnswers

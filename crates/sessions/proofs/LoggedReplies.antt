@@ -22,58 +22,58 @@ use Rattle.sessions.specs.Edits.{edit_of, drops_occupied}
 use Rattle.sessions.specs.Logs.{is_logged}
 
 -- a refusal, if there is one, is logged
-abbrev IsOrdinary : Option Refusal → Type 0
-IsOrdinary None = Unit {0}
-IsOrdinary (Some r) = is_logged (No r) ≡ true
+abbrev IsLoggedRefusal : Option Refusal → Type 0
+IsLoggedRefusal None = Unit {0}
+IsLoggedRefusal (Some r) = is_logged (No r) ≡ true
 
-refusal_if_ordinary : (t : Bool) (r : Refusal) → is_logged (No r) ≡ true → IsOrdinary (refusal_if t r)
-refusal_if_ordinary true r h = h
-refusal_if_ordinary false r h = tt
+refusal_if_logged : (t : Bool) (r : Refusal) → is_logged (No r) ≡ true → IsLoggedRefusal (refusal_if t r)
+refusal_if_logged true r h = h
+refusal_if_logged false r h = tt
 
-first_ordinary : (o : Option Refusal) (rs : List (Option Refusal)) → IsOrdinary o → IsOrdinary (first_refusal rs) → IsOrdinary (first_refusal (o ∷ rs))
-first_ordinary None rs a b = b
-first_ordinary (Some r) rs a b = a
+first_logged : (o : Option Refusal) (rs : List (Option Refusal)) → IsLoggedRefusal o → IsLoggedRefusal (first_refusal rs) → IsLoggedRefusal (first_refusal (o ∷ rs))
+first_logged None rs a b = b
+first_logged (Some r) rs a b = a
 
 -- if the refusals in two results are logged, so is the refusal in the result that a test chooses
-by_test : (t : Bool) (x y : Result Forest Refusal) → IsOrdinary (refusal_in x) → IsOrdinary (refusal_in y) → IsOrdinary (refusal_in (cond t x y))
+by_test : (t : Bool) (x y : Result Forest Refusal) → IsLoggedRefusal (refusal_in x) → IsLoggedRefusal (refusal_in y) → IsLoggedRefusal (refusal_in (cond t x y))
 by_test true x y a b = a
 by_test false x y a b = b
 
-found_ordinary : (o : Option ℕ) (work : ℕ → Result Forest Refusal) → ((i : ℕ) → IsOrdinary (refusal_in (work i))) → IsOrdinary (refusal_in (on_found o work))
-found_ordinary None work h = refl
-found_ordinary (Some i) work h = h i
+found_logged : (o : Option ℕ) (work : ℕ → Result Forest Refusal) → ((i : ℕ) → IsLoggedRefusal (refusal_in (work i))) → IsLoggedRefusal (refusal_in (on_found o work))
+found_logged None work h = refl
+found_logged (Some i) work h = h i
 
-edited_ordinary : (limits : Limits) (f : Forest) (edit : Edit) → IsOrdinary (refusal_in (edited limits f edit))
-edited_ordinary limits f (Insert name place step) =
-    found_ordinary (index_of f.branches name) (forests.insert_at limits f place step)
+edited_logged : (limits : Limits) (f : Forest) (edit : Edit) → IsLoggedRefusal (refusal_in (edited limits f edit))
+edited_logged limits f (Insert name place step) =
+    found_logged (index_of f.branches name) (forests.insert_at limits f place step)
     (λ i. by_test (nat_lt (length (slots_in f.branches i)) place) (Err NoPlace) _ refl (by_test (nat_le limits.cells f.made) (Err Full) (Ok (forests.inserted f i place step)) refl tt))
-edited_ordinary limits f (Remove name place) =
-    found_ordinary (index_of f.branches name) (forests.at_cell f place forests.without) (λ i. by_test (nat_le (length (slots_in f.branches i)) place) (Err NoPlace) (Ok _) refl tt)
-edited_ordinary limits f (Replace name place step) =
-    found_ordinary (index_of f.branches name) (forests.at_cell f place (forests.replaced_by step)) (λ i. by_test (nat_le (length (slots_in f.branches i)) place) (Err NoPlace) (Ok _) refl tt)
-edited_ordinary limits f (Fork name place new) =
-    found_ordinary (index_of f.branches name) (forests.fork_at limits f place new)
+edited_logged limits f (Remove name place) =
+    found_logged (index_of f.branches name) (forests.at_cell f place forests.without) (λ i. by_test (nat_le (length (slots_in f.branches i)) place) (Err NoPlace) (Ok _) refl tt)
+edited_logged limits f (Replace name place step) =
+    found_logged (index_of f.branches name) (forests.at_cell f place (forests.replaced_by step)) (λ i. by_test (nat_le (length (slots_in f.branches i)) place) (Err NoPlace) (Ok _) refl tt)
+edited_logged limits f (Fork name place new) =
+    found_logged (index_of f.branches name) (forests.fork_at limits f place new)
     (λ i. by_test (list_any (pointwise nat_eq new) (map name_of f.branches)) (Err NameTaken) _ refl
     (by_test (not (is_well_formed new)) (Err BadName) _ refl
     (by_test (nat_lt (length (slots_in f.branches i)) place) (Err NoPlace) _ refl
     (by_test (nat_le limits.branches (length f.branches)) (Err TooManyBranches) (Ok _) refl tt))))
-edited_ordinary limits f (Detach name) =
-    found_ordinary (index_of f.branches name) (forests.detach_at limits f) (λ i. by_test (nat_lt limits.cells (f.made + length (slots_in f.branches i))) (Err Full) (Ok _) refl tt)
-edited_ordinary limits f (Drop name) =
-    found_ordinary (index_of f.branches name) (forests.drop_at f) (λ i. by_test (nat_le (length f.branches) 1) (Err LastBranch) (Ok _) refl tt)
+edited_logged limits f (Detach name) =
+    found_logged (index_of f.branches name) (forests.detach_at limits f) (λ i. by_test (nat_lt limits.cells (f.made + length (slots_in f.branches i))) (Err Full) (Ok _) refl tt)
+edited_logged limits f (Drop name) =
+    found_logged (index_of f.branches name) (forests.drop_at f) (λ i. by_test (nat_le (length f.branches) 1) (Err LastBranch) (Ok _) refl tt)
 
-go_ordinary : (f : Forest) (c : Command) → IsOrdinary (refusal_in (go_result f c))
-go_ordinary f (command.Go name place) =
-    found_ordinary (index_of f.branches name) (looked_at f place) (λ i. by_test (nat_lt (length (slots_in f.branches i)) place) (Err NoPlace) (Ok f) refl tt)
-go_ordinary f c = tt
+go_logged : (f : Forest) (c : Command) → IsLoggedRefusal (refusal_in (go_result f c))
+go_logged f (command.Go name place) =
+    found_logged (index_of f.branches name) (looked_at f place) (λ i. by_test (nat_lt (length (slots_in f.branches i)) place) (Err NoPlace) (Ok f) refl tt)
+go_logged f c = tt
 
-late_ordinary : {P : Type 0} (edit : Option Edit) (who : ℕ) (c : Command) (w : World P) → IsOrdinary (first_refusal (late_refusals_by edit who c w))
-late_ordinary (Some edit) who c w =
-    first_ordinary (refusal_in (edited w.limits w.forest edit)) _ (edited_ordinary w.limits w.forest edit)
-    (first_ordinary (refusal_if (drops_occupied edit w.cursors) Occupied) [] (refusal_if_ordinary (drops_occupied edit w.cursors) Occupied refl) tt)
-late_ordinary None who c w =
-    first_ordinary (refusal_in (go_result w.forest c)) _ (go_ordinary w.forest c)
-    (first_ordinary (refusal_if (lacks_break who c w.breaks) NoBreak) [] (refusal_if_ordinary (lacks_break who c w.breaks) NoBreak refl) tt)
+late_logged : {P : Type 0} (edit : Option Edit) (who : ℕ) (c : Command) (w : World P) → IsLoggedRefusal (first_refusal (late_refusals_by edit who c w))
+late_logged (Some edit) who c w =
+    first_logged (refusal_in (edited w.limits w.forest edit)) _ (edited_logged w.limits w.forest edit)
+    (first_logged (refusal_if (drops_occupied edit w.cursors) Occupied) [] (refusal_if_logged (drops_occupied edit w.cursors) Occupied refl) tt)
+late_logged None who c w =
+    first_logged (refusal_in (go_result w.forest c)) _ (go_logged w.forest c)
+    (first_logged (refusal_if (lacks_break who c w.breaks) NoBreak) [] (refusal_if_logged (lacks_break who c w.breaks) NoBreak refl) tt)
 
 hit_logged : (o : Option Cursor) → is_logged (hit_reply o) ≡ true
 hit_logged None = refl
@@ -113,7 +113,7 @@ module _ {P : Type 0} (who : ℕ) (w : World P) where
 
   -- if the first refusal of a command, if any, is logged, then the reply is logged, the command is
   -- counted, and the limits stay
-  answered_logged : (c : Command) (o : Option Refusal) → IsOrdinary o
+  answered_logged : (c : Command) (o : Option Refusal) → IsLoggedRefusal o
       → (is_logged (answered o who c w).reply ≡ true) × ((answered o who c w).world.logged ≡ w.logged + 1) × ((answered o who c w).world.limits ≡ w.limits)
   answered_logged c None h = (reply_logged c, accepted_counted (edit_of c) c, accepted_limits (edit_of c) c)
   answered_logged c (Some r) h = (h, refused_counted r h, refused_limits r)
@@ -122,11 +122,11 @@ module _ {P : Type 0} (who : ℕ) (w : World P) where
       → (is_logged (command_result who guard c w).reply ≡ true) × ((command_result who guard c w).world.logged ≡ w.logged + 1) × ((command_result who guard c w).world.limits ≡ w.limits)
   acted_logged guard c room =
       answered_logged c (first_refusal (refusals who guard c w))
-      (first_ordinary (refusal_if (is_full w) LogFull) _ (subst (λ t. IsOrdinary (refusal_if t LogFull)) (sym room) tt)
-      (first_ordinary (refusal_if (lacks_session who c w.cursors) NoSession) _ (refusal_if_ordinary (lacks_session who c w.cursors) NoSession refl)
-      (first_ordinary (refusal_if (is_missed guard w.edits) (Newer w.edits)) _ (refusal_if_ordinary (is_missed guard w.edits) (Newer w.edits) refl)
-      (first_ordinary (refusal_if (not (fits_command w.tower c)) BadStep) _ (refusal_if_ordinary (not (fits_command w.tower c)) BadStep refl)
-      (late_ordinary (edit_of c) who c w)))))
+      (first_logged (refusal_if (is_full w) LogFull) _ (subst (λ t. IsLoggedRefusal (refusal_if t LogFull)) (sym room) tt)
+      (first_logged (refusal_if (lacks_session who c w.cursors) NoSession) _ (refusal_if_logged (lacks_session who c w.cursors) NoSession refl)
+      (first_logged (refusal_if (is_missed guard w.edits) (Newer w.edits)) _ (refusal_if_logged (is_missed guard w.edits) (Newer w.edits) refl)
+      (first_logged (refusal_if (not (fits_command w.tower c)) BadStep) _ (refusal_if_logged (not (fits_command w.tower c)) BadStep refl)
+      (late_logged (edit_of c) who c w)))))
 
   -- if the log isn't full, `command_result` never gives the reply Memory
   pub never_memory : (guard : Option ℕ) (c : Command) (after : World P) (reply : Reply) → is_full w ≡ false

@@ -49,6 +49,7 @@ module _ (test : ℕ → Bool) (from : ℕ) where
   forth_one_more n None h = forth_one_more_if_none n (test n && nat_lt from n) refl h
   forth_one_more n (Some k) h = kept_forth n k h
 
+  -- what `next_place` finds among the places below n is the nearest hit, forth, back, or either way
   forth : (n : ℕ) → IsNearest Forth n (next_place Forth from (places_with test n))
   forth zero = λ j h. absurd (omega (arith, h))
   forth (suc n) =

@@ -4,25 +4,24 @@ use Rattle.std.specs.List.{list_any}
 use Rattle.std.specs.declared.sync.Arc.{Arc}
 use Rattle.checkpoints.specs.Segment.{SegmentRun, IsRun}
 use Rattle.std.proofs.Math.Seq.{take-append-add}
-use Rattle.std.proofs.lemmas.List.{map-append, length-append, length-take, take-append-le, take-take, get_or-append-add, get_or_append_left, get_or-take}
+use Rattle.std.proofs.lemmas.List.{length-append, length-take, take-append-le, take-take, get_or-append-add, get_or_append_left, get_or-take}
 use Rattle.frames.specs.declared.types.Step.{Step}
 use Rattle.frames.specs.declared.types.StepEvents.{StepEvents}
 use Rattle.frames.specs.Behaviour.{Behaviour}
 use Rattle.frames.specs.Configuration.{Configuration, initial_configuration, stepped, replayed, history}
 use Rattle.frames.specs.Configuration.{events_of as events_of_step}
-use Rattle.schedule_trie.specs.Forest.{step_of}
-use Rattle.schedule_trie.specs.Trie.{TrieOf, segment_at, slots_of, line, forest}
+use Rattle.schedule_trie.specs.Trie.{TrieOf, forest}
 use Rattle.cutoff.specs.Fitting.{StoredRun, RunPart, RunFits, steps_at, reached, counted, part_of}
 use Rattle.cutoff.specs.Settles.{Settles, IsSettled}
 use Rattle.cutoff.specs.Charts.{Charted, keys_named}
-use Rattle.cutoff.specs.Links.{without_register}
 use Rattle.cutoff.proofs.Fits.{register_kept, without_register_same}
 use Rattle.pages.specs.declared.breakpoint.Break.{Break}
 use Rattle.pages.specs.Breaks.{is_met}
-use Rattle.frames.specs.Recorded.{Alone, first_configuration, configuration_after}
+use Rattle.frames.specs.Recorded.{LoneConfiguration, first_configuration, configuration_after, without_register}
 use Rattle.views.specs.Looks.{steps_in}
-use Rattle.views.proofs.Spots.{steps_named}
-use Rattle.views.proofs.BehaviourAlone.{replayed_alone, history_alone, replayed-append, history-append}
+use Rattle.views.proofs.Spots.{steps_along, steps_along_more, steps_named}
+use Rattle.views.proofs.BehaviourAlone.{replayed_alone, history_alone}
+use Rattle.views.proofs.Replays.{replayed-append, history-append}
 use Rattle.sessions.specs.Seeks.{no_events, events_before, is_hit}
 use Rattle.sessions.specs.Walks.{ReportsPart, ReportsParts, is_on_bit, is_any_met_by_events}
 use Rattle.sessions.proofs.Searches.{met_by_events}
@@ -34,9 +33,11 @@ module _ {R P : Type 0} (b : Behaviour P) where
 
 -- the steps of a branch are those before a segment, the segment's own, and those following it
 module _ {P : Type 0} (b : Behaviour P) (value : ℕ) (breaks : List Break) (before segment following steps : List Step) (all : steps ≡ before ++ (segment ++ following)) where
-  config_before : Alone P
+  config_before : LoneConfiguration P
   config_before = configuration_after b value before
 
+  -- of the place after step i of the segment: the events before it, the configuration there, and
+  -- whether it is a hit
   events_in : (i : ℕ) → i < length segment → events_before b value steps (suc (length before + i)) ≡ slice_index_or (history b config_before segment) i no_events
   unfolding config_before
   events_in i within =
@@ -70,28 +71,21 @@ module _ {P : Type 0} (b : Behaviour P) (value : ℕ) (breaks : List Break) (bef
 
 module _ {R P : Type 0} (E : R → R → Bool) (is : R → Behaviour P) (alike : (x y : R) → E x y ≡ true → is x ≡ is y)
     (b : Behaviour P) (old new : TrieOf (StoredRun R P)) (value : ℕ) (breaks : List Break) (steps : List Step) where
-  abbrev steps_along : List ℕ → List Step
-  steps_along keys = map step_of (line (segment_at old.segments) keys)
-
-  -- the steps along several keys are those of the first key's segment, then those along the rest
-  steps_along_more : (k : ℕ) (ks : List ℕ) → steps_along (k ∷ ks) ≡ steps_at old k ++ steps_along ks
-  steps_along_more k ks = map-append step_of (slots_of (segment_at old.segments k)) (line (segment_at old.segments) ks)
-
   -- a run fits the segment right after the steps `before`, and all its steps count: the test of
   -- hits is right for it (`ReportsPart`)
   reports_run : (before : List Step) (c : Configuration R P) (k : ℕ) (ks : List ℕ) (part : RunPart R P) → is c.register ≡ b → without_register c ≡ configuration_after b value before
-      → steps ≡ before ++ steps_along (k ∷ ks) → RunFits E c (steps_at old k) part.run → part.count ≡ length (steps_at old k)
+      → steps ≡ before ++ steps_along old (k ∷ ks) → RunFits E c (steps_at old k) part.run → part.count ≡ length (steps_at old k)
       → ReportsPart is breaks (is_hit b value steps breaks) (length before) part
   reports_run before c k ks part home comes all fits count =
       let own : is part.run.entry.register ≡ b = alike part.run.entry.register c.register fits.entry.register ∙ home in
       let entry : without_register part.run.entry ≡ configuration_after b value before = without_register_same E part.run.entry c fits.entry ∙ comes in
-      let parted : steps ≡ before ++ (part.run.steps ++ steps_along ks) =
-      all ∙ ap (λ l. before ++ l) (steps_along_more k ks ∙ ap (λ l. l ++ steps_along ks) (sym fits.steps)) in
+      let parted : steps ≡ before ++ (part.run.steps ++ steps_along old ks) =
+      all ∙ ap (λ l. before ++ l) (steps_along_more old k ks ∙ ap (λ l. l ++ steps_along old ks) (sym fits.steps)) in
       let long : part.count ≡ length part.run.steps = count ∙ ap length (sym fits.steps) in
       record {
         within = omega (arith, long);
         each = λ i h.
-            hit_in b value breaks before part.run.steps (steps_along ks) steps parted i (omega (arith, h, long))
+            hit_in b value breaks before part.run.steps (steps_along old ks) steps parted i (omega (arith, h, long))
             ∙ sym (ap (λ d. is_met breaks (slice_index_or (history d part.run.entry part.run.steps) i no_events) (replayed d part.run.entry (take (i + 1) part.run.steps)).memory) own
             ∙ ap (λ events. is_met breaks (slice_index_or events i no_events) (replayed b part.run.entry (take (i + 1) part.run.steps)).memory) (history_alone b part.run.entry part.run.steps)
             ∙ ap (λ d. is_met breaks (slice_index_or (history b (without_register part.run.entry) part.run.steps) i no_events) d.memory) (replayed_alone b part.run.entry (take (i + 1) part.run.steps))
@@ -104,23 +98,23 @@ module _ {R P : Type 0} (E : R → R → Bool) (is : R → Behaviour P) (alike :
   -- all segments after the steps `before` are settled: the test of hits is right for their runs
   -- (`ReportsParts`)
   reports_runs : (before : List Step) (c : Configuration R P) (keys : List ℕ) (rest : ℕ) (parts : List (RunPart R P)) (n : ℕ) → is c.register ≡ b → without_register c ≡ configuration_after b value before
-      → steps ≡ before ++ steps_along keys → rest ≡ length (steps_along keys) → Settles E b old new c rest (reached old rest keys) parts n
+      → steps ≡ before ++ steps_along old keys → rest ≡ length (steps_along old keys) → Settles E b old new c rest (reached old rest keys) parts n
       → ReportsParts is breaks (is_hit b value steps breaks) (length before) parts
   reports_runs before c [] rest parts n home comes all long h = reports_none (length before) parts h.0
   reports_runs before c (k ∷ ks) rest parts n home comes all long h = by (λ before' c' rest' parts' n'. reports_runs before' c' ks rest' parts' n') (nat_eq rest 0) parts h
     where
       Later : Type 0
       Later = (before' : List Step) (c' : Configuration R P) (rest' : ℕ) (parts' : List (RunPart R P)) (n' : ℕ) → is c'.register ≡ b → without_register c' ≡ configuration_after b value before'
-          → steps ≡ before' ++ steps_along ks → rest' ≡ length (steps_along ks) → Settles E b old new c' rest' (reached old rest' ks) parts' n'
+          → steps ≡ before' ++ steps_along old ks → rest' ≡ length (steps_along old ks) → Settles E b old new c' rest' (reached old rest' ks) parts' n'
           → ReportsParts is breaks (is_hit b value steps breaks) (length before') parts'
 
       some : Later → (part : RunPart R P) (parts' : List (RunPart R P)) → Settles E b old new c rest (k ∷ reached old (rest - length (steps_at old k)) ks) (part ∷ parts') n
           → ReportsParts is breaks (is_hit b value steps breaks) (length before) (part ∷ parts')
       some later part parts' s =
           let segment : List Step = steps_at old k in
-          let total : rest ≡ length segment + length (steps_along ks) = long ∙ ap length (steps_along_more k ks) ∙ length-append segment (steps_along ks) in
+          let total : rest ≡ length segment + length (steps_along old ks) = long ∙ ap length (steps_along_more old k ks) ∙ length-append segment (steps_along old ks) in
           let count : part.count ≡ length segment = s.3.count ∙ omega (arith, total) in
-          let parted : steps ≡ (before ++ segment) ++ steps_along ks = all ∙ ap (λ l. before ++ l) (steps_along_more k ks) ∙ sym (append_assoc before segment (steps_along ks)) in
+          let parted : steps ≡ (before ++ segment) ++ steps_along old ks = all ∙ ap (λ l. before ++ l) (steps_along_more old k ks) ∙ sym (append_assoc before segment (steps_along old ks)) in
           let next : without_register (replayed b c segment) ≡ configuration_after b value (before ++ segment) =
           replayed_alone b c segment ∙ ap (λ d. replayed b d segment) comes ∙ sym (replayed-append b (first_configuration b value) before segment) in
           let place : length (before ++ segment) ≡ length before + part.count = length-append before segment ∙ ap (λ m. length before + m) (sym count) in (

@@ -1,5 +1,5 @@
 -- What a search has found after one more place.
-use Rattle.std.proofs.Common.{◌≡◌, ℕ, suc, ◌+◌, Bool, true, false, ◌&&◌, ◌||◌, cond, nat_lt, List, [], ◌∷◌, ◌++◌, ◌<◌, length, get_or, drop, drop-cons, Option, Some, None, refl, sym, ap, ◌∙◌, arith, append-nil, reverse}
+use Rattle.std.proofs.Common.{◌≡◌, ℕ, zero, suc, ◌+◌, Bool, true, false, ◌&&◌, ◌||◌, cond, nat_lt, List, [], ◌∷◌, ◌++◌, ◌<◌, length, get_or, drop, drop-cons, Option, Some, None, refl, sym, ap, ◌∙◌, arith, append-nil, reverse}
 use Rattle.std.specs.List.{find, filter, list_any, range_with_len}
 use Rattle.std.specs.Option.{option_or}
 use Rattle.std.proofs.lemmas.List.{reverse-append}
@@ -16,7 +16,24 @@ use Rattle.sessions.specs.declared.way.Way.{Way}
 use Rattle.sessions.specs.declared.way.Way.TheVariants.{Forth, Back}
 use Rattle.sessions.specs.Seeks.{places_with, least_above, greatest_below, next_place}
 use Rattle.sessions.specs.Walks.{is_on_bit, is_any_met_by_events, ReportsEvents}
-use Rattle.sessions.proofs.General.{or_regrouped, or_false, range_more}
+
+or_regrouped : (x xs y ys : Bool) → ((x || xs) || (y || ys)) ≡ ((x || y) || (xs || ys))
+or_regrouped true xs y ys = refl
+or_regrouped false true true ys = refl
+or_regrouped false true false ys = refl
+or_regrouped false false true ys = refl
+or_regrouped false false false ys = refl
+
+or_false : (a b : Bool) → b ≡ false → (a || b) ≡ a
+or_false true b e = refl
+or_false false b e = e
+
+-- the range from a on, with one more number at its end
+range_more : (a n : ℕ) → range_with_len a (suc n) ≡ range_with_len a n ++ (a + n) ∷ []
+range_more a zero = let e : a ≡ a + 0 = omega arith in ap (λ m. m ∷ []) e
+range_more a (suc n) =
+    let e : (a + 1) + n ≡ a + suc n = omega arith in
+    ap (λ l. a ∷ l) (range_more (a + 1) n ∙ ap (λ m. range_with_len (a + 1) n ++ m ∷ []) e)
 
 module _ (test : ℕ → Bool) where
   -- the places below `place + 1` that pass the test: those below `place`, and `place` if it passes
@@ -27,6 +44,7 @@ module _ (test : ℕ → Bool) where
       ap (places_with test) e ∙ ap (filter test) (range_more 0 place ∙ ap (λ m. range_with_len 0 place ++ m ∷ []) z)
       ∙ filter-append test (range_with_len 0 place) (place ∷ [])
 
+  -- a search of at most one place, and a search from the end of places to which one may be added
   pub find_one : (p : ℕ → Bool) (place : ℕ) (hit : Bool) → find p (cond hit (place ∷ []) []) ≡ cond (hit && p place) (Some place) None
   find_one p place true = refl
   find_one p place false = refl
@@ -36,6 +54,7 @@ module _ (test : ℕ → Bool) where
   find_last p places place true = ap (find p) (reverse-append places (place ∷ []))
   find_last p places place false = ap (λ l. find p (reverse l)) (append-nil places)
 
+  -- what a search has found once one more place is searched, forth and back
   pub forth_more : (from place : ℕ) (hit : Bool) (found result : Option ℕ) → test place ≡ hit → found ≡ least_above from (places_with test place)
       → result ≡ option_or found (cond (hit && nat_lt from place) (Some place) None) → result ≡ least_above from (places_with test (place + 1))
   forth_more from place hit found result tested before after =

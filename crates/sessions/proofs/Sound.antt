@@ -23,7 +23,7 @@ use Rattle.sessions.specs.Edits.{edit_of, moved_by, drops_occupied}
 use Rattle.sessions.specs.Seeks.{hits, is_hit, next_place}
 use Rattle.sessions.specs.Acts.{answered, breaks_after, command_result, cursors_after, first_refusal, hit_from, hit_of, is_full, forest_or, late_refusals_by, accepted_world_by, other_refusals, put_cursor, refusals, early_refusals, late_refusals, refusal_in, refused_world, refusal_if}
 use Rattle.sessions.specs.Books.{IsLawfulWorld}
-use Rattle.sessions.proofs.Answered.{early_none}
+use Rattle.sessions.proofs.CommandAnswers.{session_exists_and_step_fits}
 use Rattle.sessions.proofs.NextHits.{next_is_hit}
 use Rattle.sessions.proofs.CellsMade.{made_within}
 use Rattle.sessions.proofs.CursorPlaces.{edited_placed, first_placed, hit_exists, put_placed}
@@ -146,5 +146,5 @@ module _ {P : Type 0} (who : ℕ) (w : World P) (sound : IsLawfulWorld w) (held 
       by None e apart =
           let rest = (neither_refuses (refusal_if (is_full w) LogFull ∷ []) (early_refusals who guard c w ++ late_refusals who c w) e).1 in
           let none = neither_refuses (early_refusals who guard c w) (late_refusals who c w) rest in
-          accepted_sound (early_none who guard c w none.0).0 (edit_of c) c apart none.1
+          accepted_sound (session_exists_and_step_fits who guard c w none.0).0 (edit_of c) c apart none.1
       by (Some r) e apart = refused_sound r

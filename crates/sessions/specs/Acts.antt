@@ -188,8 +188,8 @@ edited_world edit w =
     }
 
 -- the world after a command that isn't an edit and isn't refused
-abbrev pub moved_world : {P : Type 0} → ℕ → Command → World P → World P
-moved_world who c w =
+abbrev pub unedited_world : {P : Type 0} → ℕ → Command → World P → World P
+unedited_world who c w =
     record w {
       cursors = cursors_after who c w;
       breaks = breaks_after who c w.breaks;
@@ -200,7 +200,7 @@ moved_world who c w =
 -- edit, or `None` if c isn't an edit
 abbrev pub accepted_world_by : {P : Type 0} → Option Edit → ℕ → Command → World P → World P
 accepted_world_by (Some edit) who c w = edited_world edit w
-accepted_world_by None who c w = moved_world who c w
+accepted_world_by None who c w = unedited_world who c w
 
 -- the world after a command of session `who` that isn't refused
 abbrev pub accepted_world : {P : Type 0} → ℕ → Command → World P → World P

@@ -14,7 +14,8 @@ abbrev pub AreWithin : List (Option Cursor) → Type 0
 AreWithin cursors = (who : ℕ) → IfSome (cursor_at cursors who) (λ c. c.place ≤ MOST_CELLS_MADE)
 
 -- what a workspace needs so that a command can be carried out: its cursors are within their bounds,
--- it has sixteen lists of breaks, and one more edit can be counted
+-- it has sixteen lists of breaks, and one more edit can be counted, since at most as many were
+-- accepted as the longest log has entries
 pub record CanAct {R P : Type 0} (s : Workspace R P) : Type 0 where
   pub within : AreWithin s.cursors
   pub breaks : length s.breaks.items ≡ 16

@@ -36,7 +36,7 @@ pub enum Shift {
 impl Shift {
     /// The new place of a cursor at `place`, which is after the edit's place. Adding 1 can't
     /// overflow, since `place` is at most MOST_CELLS_MADE.
-    fn of(self, place: u32) -> u32
+    fn new_place(self, place: u32) -> u32
         requires following { 0 < place }
         requires within { place ≤ MOST_CELLS_MADE }
         ensures { result ≡ spec.shifted_place self place }
@@ -83,7 +83,7 @@ fn shifted_one<R: Register>(
     }
     Some(Cursor {
         branch: cursor.branch,
-        place: shift.of(cursor.place),
+        place: shift.new_place(cursor.place),
     })
 }
 

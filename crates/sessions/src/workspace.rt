@@ -54,7 +54,7 @@ impl<R: Register> Workspace<R> {
         if let Some(refusal) = self.early_refusal(who, if_at, session, step) {
             return Ok(Reply::No(refusal));
         }
-        match self.work(alloc, who, command, edit) {
+        match self.carry_out(alloc, who, command, edit) {
             Ok(reply) => Ok(reply),
             Err(refusal) => {
                 if let Refusal::Memory = refusal {
@@ -96,7 +96,7 @@ impl<R: Register> Workspace<R> {
     /// Carries out a command that `early_refusal` doesn't refuse; `edit` is its edit, if it is one.
     /// Fails with the first reason that `late_refusals` gives, if it gives one; otherwise with
     /// Memory, if memory runs out. After a failure nothing that commands see is changed.
-    fn work(
+    fn carry_out(
         &mut self,
         alloc: Global,
         who: u32,

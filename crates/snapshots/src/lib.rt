@@ -23,6 +23,7 @@ impl<T> Snapshot<T> {
     pub fn of(x: &T) -> Snapshot<T>
         ensures { result.value ≡ x.now }
     {
+        // the contract alone reads it
         let _ = x;
         Snapshot {
             marker: PhantomData,
@@ -32,6 +33,7 @@ impl<T> Snapshot<T> {
 
 impl<T> Drop for Snapshot<T> {
     fn drop(self) {
+        // a snapshot owns nothing, so there is nothing to drop
         let Self { marker: _ } = self;
     }
 }

@@ -1,1 +1,2 @@
 pub mod Switch
+pub mod laws

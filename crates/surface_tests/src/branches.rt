@@ -6,6 +6,7 @@ mod books;
 pub(crate) mod charts;
 mod forests;
 pub(crate) mod jobs;
+mod lists;
 mod made_pages;
 pub(crate) mod shown;
 

@@ -160,12 +160,12 @@ fn plan_of_two(rt: &impl Abort, alloc: Global) -> Result<Vec<plan::Job<Safe>>, R
     plan_of_fork(rt, alloc, &mut chart)
 }
 
-/// The outcome of a job of a chart.
-type Ran = Done<SegKey, Arc<Run<Safe>>>;
+/// The outcome of a job of a chart, with the job's key.
+type ChartJobDone = Done<SegKey, Arc<Run<Safe>>>;
 
 /// The key of a job, and the one step of its run; `None` if there is no run, or if the run doesn't
 /// have exactly one step.
-fn only_step(done: &Ran) -> Option<(SegKey, Step)> {
+fn only_step(done: &ChartJobDone) -> Option<(SegKey, Step)> {
     let JobOutcome::Ran(run) = &done.outcome else {
         return None;
     };
@@ -182,7 +182,7 @@ fn run_by_two<W: Threads + Wait + Sync>(
     alloc: Global,
     jobs: Vec<plan::Job<Safe>>,
     gate: &Meeting,
-) -> Result<Vec<Ran>, AllocError> {
+) -> Result<Vec<ChartJobDone>, AllocError> {
     Crew::run(rt, alloc, jobs, 1, gate)
 }
 
@@ -195,7 +195,7 @@ fn expected_of(rt: &impl Abort, jobs: &[plan::Job<Safe>]) -> [Option<(SegKey, St
 }
 
 /// Whether the outcomes are runs of these jobs, each of this one step.
-fn have_steps(all: &[Ran], expected: [Option<(SegKey, Step)>; 2]) -> bool {
+fn have_steps(all: &[ChartJobDone], expected: [Option<(SegKey, Step)>; 2]) -> bool {
     all.iter().map(only_step).eq(expected)
 }
 

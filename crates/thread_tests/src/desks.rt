@@ -13,7 +13,7 @@ mod forests;
 mod growths;
 mod guarded;
 mod limbs;
-mod measured;
+mod many_edits;
 mod news;
 mod openings;
 mod rounds;
@@ -53,6 +53,7 @@ fn halves(desk: &Desk<Safe>, mut chair: Chair<Safe>) -> (Chair<Safe>, Chair<Safe
     (chair, other)
 }
 
+/// The name with this text, which has to be short enough for one.
 pub(crate) fn name(rt: &impl Abort, text: &[u8]) -> Name {
     Name::new(text).expect(rt, "a short name")
 }

@@ -10,7 +10,7 @@ use Rattle.branch_terms.specs.declared.limb.Limb.{Limb}
 use Rattle.branch_terms.specs.Limbs.{is_new_name, may_share, are_lawful_after}
 use Rattle.tower_file.specs.declared.tower.TowerSpec.{TowerSpec}
 use Rattle.tower_file.specs.Towers.{fits}
-use Rattle.tower_file.specs.Benches.{has_limbs, has_fit, are_lawful}
+use Rattle.tower_file.specs.Benches.{has_limbs, is_fitting, are_lawful}
 use Rattle.tower_file.specs.Spelling.{text_with_end}
 use Rattle.tower_file.specs.BenchSpelling.{branch_text, limb_text}
 use Rattle.tower_file.specs.BenchReading.{limb_with_step, put_step}
@@ -32,6 +32,7 @@ put_step_by_index (k ∷ []) (suc n) l s e same = absurd (omega arith)
 put_step_by_index (k ∷ m ∷ ls) zero l s e same = absurd (omega arith)
 put_step_by_index (k ∷ m ∷ ls) (suc n) l s e same = ap (λ z. k ∷ z) (put_step_by_index (m ∷ ls) n l s (omega arith) same)
 
+-- after `ls ++ l ∷ []`, `put_step` adds the step to l
 pub put_step-last : (ls : List Limb) (l : Limb) (s : Step) → put_step (ls ++ l ∷ []) s ≡ ls ++ limb_with_step l s ∷ []
 put_step-last [] l s = refl
 put_step-last (k ∷ []) l s = refl
@@ -50,6 +51,7 @@ put_limb_nonempty (k ∷ ls) l = refl
 
 -- ---- their text
 
+-- a limb with one more step has one more line
 with_step_text : (l : Limb) (s : Step) → limb_text (limb_with_step l s) ≡ limb_text l ++ step_line s
 with_step_text l s =
     ap (λ x. text_with_end (branch_text l) ++ x) (flat_map-append step_line l.steps (s ∷ []) ∙ ap (λ x. flat_map step_line l.steps ++ x) (append-nil (step_line s)))
@@ -67,11 +69,13 @@ put_limb_text ls l none =
 
 -- ---- limbs stay lawful
 
+-- a step changes no name, and nothing that is shared
 put_step_lawful_after : (e ls : List Limb) (s : Step) → are_lawful_after e (put_step ls s) ≡ are_lawful_after e ls
 put_step_lawful_after e [] s = refl
 put_step_lawful_after e (l ∷ []) s = refl
 put_step_lawful_after e (l ∷ k ∷ ls) s = ap (λ b. is_new_name e l.name && (may_share e l && b)) (put_step_lawful_after (e ++ l ∷ []) (k ∷ ls) s)
 
+-- a limb with a new name that may share what it does
 put_limb_lawful_after : (e ls : List Limb) (l : Limb) → are_lawful_after e ls ≡ true → is_new_name (e ++ ls) l.name ≡ true → may_share (e ++ ls) l ≡ true
     → are_lawful_after e (ls ++ l ∷ []) ≡ true
 put_limb_lawful_after e [] l h new may =
@@ -89,25 +93,26 @@ put_limb_lawful_after e (k ∷ ls) l h new may =
 abbrev has_short_numbers : Limb → Bool
 has_short_numbers l = nat_lt l.from (10 ^ 9) && nat_lt l.shared (10 ^ 9)
 
-put_step_fit : (t : TowerSpec) (ls : List Limb) (s : Step) → list_all (has_fit t) ls ≡ true → fits t s ≡ true → list_all (has_fit t) (put_step ls s) ≡ true
+-- limbs that fit still do with one more fitting step
+put_step_fit : (t : TowerSpec) (ls : List Limb) (s : Step) → list_all (is_fitting t) ls ≡ true → fits t s ≡ true → list_all (is_fitting t) (put_step ls s) ≡ true
 put_step_fit t [] s h fit = refl
 put_step_fit t (l ∷ []) s h fit =
-    let a = and_parts (has_fit t l) true h in
+    let a = and_parts (is_fitting t l) true h in
     let b = and_parts (has_short_numbers l) (list_all (fits t) l.steps) a.0 in
     let steps = list_all-append (fits t) l.steps (s ∷ []) ∙ and_from (list_all (fits t) l.steps) (fits t s && true) b.1 (and_from (fits t s) true fit refl) in
-    and_from (has_fit t (limb_with_step l s)) true (and_from (has_short_numbers l) (list_all (fits t) (l.steps ++ s ∷ [])) b.0 steps) refl
+    and_from (is_fitting t (limb_with_step l s)) true (and_from (has_short_numbers l) (list_all (fits t) (l.steps ++ s ∷ [])) b.0 steps) refl
 put_step_fit t (l ∷ k ∷ ls) s h fit =
-    let a = and_parts (has_fit t l) (list_all (has_fit t) (k ∷ ls)) h in
-    and_from (has_fit t l) (list_all (has_fit t) (put_step (k ∷ ls) s)) a.0 (put_step_fit t (k ∷ ls) s a.1 fit)
+    let a = and_parts (is_fitting t l) (list_all (is_fitting t) (k ∷ ls)) h in
+    and_from (is_fitting t l) (list_all (is_fitting t) (put_step (k ∷ ls) s)) a.0 (put_step_fit t (k ∷ ls) s a.1 fit)
 
 pub put_step_lawful : (t : TowerSpec) (ls : List Limb) (s : Step) → fits t s ≡ true → are_lawful t ls ≡ true → are_lawful t (put_step ls s) ≡ true
 put_step_lawful t ls s fit h =
-    let a = and_parts (are_lawful_after [] ls) (list_all (has_fit t) ls) h in
-    and_from (are_lawful_after [] (put_step ls s)) (list_all (has_fit t) (put_step ls s)) (put_step_lawful_after [] ls s ∙ a.0) (put_step_fit t ls s a.1 fit)
+    let a = and_parts (are_lawful_after [] ls) (list_all (is_fitting t) ls) h in
+    and_from (are_lawful_after [] (put_step ls s)) (list_all (is_fitting t) (put_step ls s)) (put_step_lawful_after [] ls s ∙ a.0) (put_step_fit t ls s a.1 fit)
 
-pub put_limb_lawful : (t : TowerSpec) (ls : List Limb) (l : Limb) → is_new_name ls l.name ≡ true → may_share ls l ≡ true → has_fit t l ≡ true → are_lawful t ls ≡ true
+pub put_limb_lawful : (t : TowerSpec) (ls : List Limb) (l : Limb) → is_new_name ls l.name ≡ true → may_share ls l ≡ true → is_fitting t l ≡ true → are_lawful t ls ≡ true
     → are_lawful t (ls ++ l ∷ []) ≡ true
 put_limb_lawful t ls l new may fit h =
-    let a = and_parts (are_lawful_after [] ls) (list_all (has_fit t) ls) h in
-    and_from (are_lawful_after [] (ls ++ l ∷ [])) (list_all (has_fit t) (ls ++ l ∷ [])) (put_limb_lawful_after [] ls l a.0 new may)
-    (list_all-append (has_fit t) ls (l ∷ []) ∙ and_from (list_all (has_fit t) ls) (has_fit t l && true) a.1 (and_from (has_fit t l) true fit refl))
+    let a = and_parts (are_lawful_after [] ls) (list_all (is_fitting t) ls) h in
+    and_from (are_lawful_after [] (ls ++ l ∷ [])) (list_all (is_fitting t) (ls ++ l ∷ [])) (put_limb_lawful_after [] ls l a.0 new may)
+    (list_all-append (is_fitting t) ls (l ∷ []) ∙ and_from (list_all (is_fitting t) ls) (is_fitting t l && true) a.1 (and_from (is_fitting t l) true fit refl))

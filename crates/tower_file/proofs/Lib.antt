@@ -1,13 +1,18 @@
-pub mod StepLoop
 pub mod Texts
+pub mod LinesLeft
+pub mod Readings
+pub mod PassedFaults
+pub mod Formats
 pub mod Sound
 pub mod ReadBack
-pub mod Formats
-pub mod CallResults
+pub mod TowerFormat
+pub mod StepLoop
 pub mod BenchLimbs
 pub mod BenchSound
 pub mod BenchReadBack
-pub mod BenchAnswers
+pub mod BenchFormat
+pub mod LimbLoop
 pub mod LimbNames
 pub mod TowerNames
 mod Examples
+mod BenchRows

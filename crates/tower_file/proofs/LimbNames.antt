@@ -11,6 +11,7 @@ use Rattle.branch_terms.specs.Limbs.{is_name, has_name, is_new_name}
 use Rattle.branch_terms.proofs.JudgedLimbs.{new_if_free}
 use Rattle.tower_file.specs.BenchReading.{limb_name}
 
+-- a name is among the names of limbs exactly if a limb has it
 any_name : (name : List ℕ) (ls : List Limb) → list_any (pointwise nat_eq name) (map limb_name ls) ≡ list_any (has_name name) ls
 any_name name [] = refl
 any_name name (l ∷ ls) = ap (λ b. has_name name l || b) (any_name name ls)

@@ -27,9 +27,9 @@ use Rattle.tower_file.specs.Lines.{fitting_step}
 use Rattle.tower_file.specs.Spelling.{text_with_end, tower_text, schedule_text, spelling, Spells}
 use Rattle.tower_file.specs.Reading.{◌>>=◌, is_file_byte, first_foreign, version_of, second_line, tower_of, steps_of, file_of_lines, reading_from, file_reading}
 use Rattle.words.proofs.Numbers.{number-decimal}
-use Rattle.words.proofs.Texts.{all_weaker, all_append, is_print, text_prints, words-text}
-use Rattle.words.proofs.Steps.{step_again, step_prints}
-use Rattle.tower_file.proofs.Texts.{print_is_file_byte, lines-line}
+use Rattle.words.proofs.Texts.{all_weaker, all_append, is_printable, word_with_numbers_printable, words-word_with_numbers}
+use Rattle.words.proofs.Steps.{step_again, step_printable}
+use Rattle.tower_file.proofs.Texts.{printable_is_file_byte, lines-line}
 
 -- ---- the numbers of lawful files have at most 9 digits
 
@@ -38,6 +38,7 @@ pub record IsWithinBounds (t : TowerSpec) : Type 0 where
   pub values : values_of t ≤ MOST_VALUES
   pub processes : processes_of t ≤ MOST_PROCESSES
 
+-- a lawful tower is within these bounds
 pub within_bounds : (t : TowerSpec) → is_lawful_tower t ≡ true → IsWithinBounds t
 within_bounds (Safe init) h = record { values = omega arith; processes = omega arith }
 within_bounds (Copies readers init) h = record { values = omega arith; processes = grind (arith, nat_tests) }
@@ -46,6 +47,7 @@ within_bounds (Unary values readers init) h = record { values = grind (arith, na
 within_bounds (Stamped values last) h = record { values = grind (arith, nat_tests); processes = omega arith }
 within_bounds (Matrix processes values last_tag last_stamp) h = record { values = grind (arith, nat_tests); processes = grind (arith, nat_tests) }
 
+-- an operation suits only processes that the tower has, and values that it has
 process_below : (t : TowerSpec) (who : ℕ) (o : Op) → suits t who o ≡ true → who < processes_of t
 process_below (Safe init) who o h = nobody_else 2 2 who o h
 process_below (Copies readers init) who o h = nobody_else 2 (readers + 1) who o h
@@ -65,92 +67,96 @@ value_below (Matrix processes values last_tag last_stamp) who v h = grind (arith
 
 -- ---- the tower's line
 
-pub tower_prints : (t : TowerSpec) → is_lawful_tower t ≡ true → list_all is_print (tower_text t) ≡ true
-tower_prints (Safe init) h =
+-- a tower's line is printable
+pub tower_printable : (t : TowerSpec) → is_lawful_tower t ≡ true → list_all is_printable (tower_text t) ≡ true
+tower_printable (Safe init) h =
     let a : init < 10 ^ 9 = grind (arith, nat_tests) in
-    text_prints (codes "safe") (init ∷ []) refl (a, tt)
-tower_prints (Copies readers init) h =
+    word_with_numbers_printable (codes "safe") (init ∷ []) refl (a, tt)
+tower_printable (Copies readers init) h =
     let a : readers < 10 ^ 9 = grind (arith, nat_tests) in
     let b : init < 10 ^ 9 = grind (arith, nat_tests) in
-    text_prints (codes "copies") (readers ∷ init ∷ []) refl (a, (b, tt))
-tower_prints (Regular readers init) h =
+    word_with_numbers_printable (codes "copies") (readers ∷ init ∷ []) refl (a, (b, tt))
+tower_printable (Regular readers init) h =
     let a : readers < 10 ^ 9 = grind (arith, nat_tests) in
     let b : init < 10 ^ 9 = grind (arith, nat_tests) in
-    text_prints (codes "regular") (readers ∷ init ∷ []) refl (a, (b, tt))
-tower_prints (Unary values readers init) h =
+    word_with_numbers_printable (codes "regular") (readers ∷ init ∷ []) refl (a, (b, tt))
+tower_printable (Unary values readers init) h =
     let a : values < 10 ^ 9 = grind (arith, nat_tests) in
     let b : readers < 10 ^ 9 = grind (arith, nat_tests) in
     let c : init < 10 ^ 9 = grind (arith, nat_tests) in
-    text_prints (codes "unary") (values ∷ readers ∷ init ∷ []) refl (a, (b, (c, tt)))
-tower_prints (Stamped values last) h =
+    word_with_numbers_printable (codes "unary") (values ∷ readers ∷ init ∷ []) refl (a, (b, (c, tt)))
+tower_printable (Stamped values last) h =
     let a : values < 10 ^ 9 = grind (arith, nat_tests) in
     let b : last < 10 ^ 9 = grind (arith, nat_tests) in
-    text_prints (codes "stamped") (values ∷ last ∷ []) refl (a, (b, tt))
-tower_prints (Matrix processes values last_tag last_stamp) h =
+    word_with_numbers_printable (codes "stamped") (values ∷ last ∷ []) refl (a, (b, tt))
+tower_printable (Matrix processes values last_tag last_stamp) h =
     let a : processes < 10 ^ 9 = grind (arith, nat_tests) in
     let b : values < 10 ^ 9 = grind (arith, nat_tests) in
     let c : last_tag < 10 ^ 9 = grind (arith, nat_tests) in
     let d : last_stamp < 10 ^ 9 = grind (arith, nat_tests) in
-    text_prints (codes "matrix") (processes ∷ values ∷ last_tag ∷ last_stamp ∷ []) refl (a, (b, (c, (d, tt))))
+    word_with_numbers_printable (codes "matrix") (processes ∷ values ∷ last_tag ∷ last_stamp ∷ []) refl (a, (b, (c, (d, tt))))
 
+-- the words of a tower's line are read as the tower
 tower_again : (t : TowerSpec) → is_lawful_tower t ≡ true → second_line false (words (tower_text t)) ≡ Ok t
 tower_again (Safe init) h =
     let a : init < 10 ^ 9 = grind (arith, nat_tests) in
-    ap (second_line false) (words-text (codes "safe") (init ∷ []) refl (a, tt))
+    ap (second_line false) (words-word_with_numbers (codes "safe") (init ∷ []) refl (a, tt))
     ∙ rw (number-decimal init a, h) refl
 tower_again (Copies readers init) h =
     let a : readers < 10 ^ 9 = grind (arith, nat_tests) in
     let b : init < 10 ^ 9 = grind (arith, nat_tests) in
-    ap (second_line false) (words-text (codes "copies") (readers ∷ init ∷ []) refl (a, (b, tt)))
+    ap (second_line false) (words-word_with_numbers (codes "copies") (readers ∷ init ∷ []) refl (a, (b, tt)))
     ∙ rw (number-decimal readers a, number-decimal init b, h) refl
 tower_again (Regular readers init) h =
     let a : readers < 10 ^ 9 = grind (arith, nat_tests) in
     let b : init < 10 ^ 9 = grind (arith, nat_tests) in
-    ap (second_line false) (words-text (codes "regular") (readers ∷ init ∷ []) refl (a, (b, tt)))
+    ap (second_line false) (words-word_with_numbers (codes "regular") (readers ∷ init ∷ []) refl (a, (b, tt)))
     ∙ rw (number-decimal readers a, number-decimal init b, h) refl
 tower_again (Unary values readers init) h =
     let a : values < 10 ^ 9 = grind (arith, nat_tests) in
     let b : readers < 10 ^ 9 = grind (arith, nat_tests) in
     let c : init < 10 ^ 9 = grind (arith, nat_tests) in
-    ap (second_line false) (words-text (codes "unary") (values ∷ readers ∷ init ∷ []) refl (a, (b, (c, tt))))
+    ap (second_line false) (words-word_with_numbers (codes "unary") (values ∷ readers ∷ init ∷ []) refl (a, (b, (c, tt))))
     ∙ rw (number-decimal values a, number-decimal readers b, number-decimal init c, h) refl
 tower_again (Stamped values last) h =
     let a : values < 10 ^ 9 = grind (arith, nat_tests) in
     let b : last < 10 ^ 9 = grind (arith, nat_tests) in
-    ap (second_line false) (words-text (codes "stamped") (values ∷ last ∷ []) refl (a, (b, tt)))
+    ap (second_line false) (words-word_with_numbers (codes "stamped") (values ∷ last ∷ []) refl (a, (b, tt)))
     ∙ rw (number-decimal values a, number-decimal last b, h) refl
 tower_again (Matrix processes values last_tag last_stamp) h =
     let a : processes < 10 ^ 9 = grind (arith, nat_tests) in
     let b : values < 10 ^ 9 = grind (arith, nat_tests) in
     let c : last_tag < 10 ^ 9 = grind (arith, nat_tests) in
     let d : last_stamp < 10 ^ 9 = grind (arith, nat_tests) in
-    ap (second_line false) (words-text (codes "matrix") (processes ∷ values ∷ last_tag ∷ last_stamp ∷ []) refl (a, (b, (c, (d, tt)))))
+    ap (second_line false) (words-word_with_numbers (codes "matrix") (processes ∷ values ∷ last_tag ∷ last_stamp ∷ []) refl (a, (b, (c, (d, tt)))))
     ∙ rw (number-decimal processes a, number-decimal values b, number-decimal last_tag c, number-decimal last_stamp d, h) refl
 
 -- ---- the steps
 
 -- the numbers of a fitting step have at most 9 digits
-pub step_short : (t : TowerSpec) (s : Step) → IsWithinBounds t → fits t s ≡ true → HasShortNumbers s
-step_short t (step.Write p v) small h = (omega (arith, small.processes, process_below t p (op.Write v) h), omega (arith, small.values, value_below t p v h))
-step_short t (step.Read p) small h = omega (arith, small.processes, process_below t p op.Read h)
-step_short t (step.Go p c) small h =
+pub fitting_step_short : (t : TowerSpec) (s : Step) → IsWithinBounds t → fits t s ≡ true → HasShortNumbers s
+fitting_step_short t (step.Write p v) small h = (omega (arith, small.processes, process_below t p (op.Write v) h), omega (arith, small.values, value_below t p v h))
+fitting_step_short t (step.Read p) small h = omega (arith, small.processes, process_below t p op.Read h)
+fitting_step_short t (step.Go p c) small h =
     let g = and_parts (nat_lt p (processes_of t)) (nat_lt c 2) h in
     (omega (arith, small.processes, ltb-true p (processes_of t) g.0), omega (arith, ltb-true c 2 g.1))
-step_short t (step.Stop p) small h = omega (arith, small.processes, ltb-true p (processes_of t) h)
+fitting_step_short t (step.Stop p) small h = omega (arith, small.processes, ltb-true p (processes_of t) h)
 
 -- a step that a file may have fits its tower
 fits_tower : (v : Version) (t : TowerSpec) (s : Step) → may_have v t s ≡ true → fits t s ≡ true
 fits_tower v t s h = (and_parts (has_step v s) (fits t s) h).1
 
-pub all_fit : (v : Version) (t : TowerSpec) (ss : List Step) → list_all (may_have v t) ss ≡ true → list_all (fits t) ss ≡ true
-all_fit v t [] h = refl
-all_fit v t (s ∷ ss) h =
+-- steps that a file may have fit its tower
+pub steps_fit : (v : Version) (t : TowerSpec) (ss : List Step) → list_all (may_have v t) ss ≡ true → list_all (fits t) ss ≡ true
+steps_fit v t [] h = refl
+steps_fit v t (s ∷ ss) h =
     let a = and_parts (may_have v t s) (list_all (may_have v t) ss) h in
-    and_from (fits t s) (list_all (fits t) ss) (fits_tower v t s a.0) (all_fit v t ss a.1)
+    and_from (fits t s) (list_all (fits t) ss) (fits_tower v t s a.0) (steps_fit v t ss a.1)
 
+-- the line of a step that a file may have is read as it
 pub fitting_again : (v : Version) (t : TowerSpec) (s : Step) → IsWithinBounds t → may_have v t s ≡ true → fitting_step v t (step_text s) ≡ Some s
 fitting_again v t s small h =
-    ap (λ (o : Option Step). option_and_then (λ x. cond (may_have v t x) (Some x) None) o) (step_again s (step_short t s small (fits_tower v t s h))) ∙ ap (λ b. cond b (Some s) None) h
+    ap (λ (o : Option Step). option_and_then (λ x. cond (may_have v t x) (Some x) None) o) (step_again s (fitting_step_short t s small (fits_tower v t s h))) ∙ ap (λ b. cond b (Some s) None) h
 
 -- the lines of steps, and the empty text after the last line end
 abbrev step_lines : List Step → List (List ℕ)
@@ -161,12 +167,14 @@ step_lines_nonempty : (ss : List Step) → is_end (step_lines ss) ≡ false
 step_lines_nonempty [] = refl
 step_lines_nonempty (s ∷ ss) = refl
 
+-- a line that isn't the last is read, and then the others
 steps_more : (v : Version) (t : TowerSpec) (n : ℕ) (l : List ℕ) (ls : List (List ℕ)) → is_end ls ≡ false
     → steps_of v t n (l ∷ ls) ≡ (ok_or (fitting_step v t l) (fault BadStep n) >>= λ s. steps_of v t (n + 1) ls >>= λ ss. Ok (s ∷ ss))
 unfolding steps_of
 steps_more v t n l [] h = absurd cc
 steps_more v t n l (k ∷ ls) h = refl
 
+-- the lines of steps are read as these
 steps_again : (v : Version) (t : TowerSpec) (n : ℕ) (ss : List Step) → IsWithinBounds t → list_all (may_have v t) ss ≡ true → steps_of v t n (step_lines ss) ≡ Ok ss
 unfolding steps_of
 steps_again v t n [] small h = refl
@@ -176,23 +184,27 @@ steps_again v t n (s ∷ ss) small h =
     ∙ ap (λ (o : Option Step). ok_or o (fault BadStep n) >>= λ x. steps_of v t (n + 1) (step_lines ss) >>= λ xs. Ok (x ∷ xs)) (fitting_again v t s small a.0)
     ∙ ap (λ (r : Result (List Step) FileFault). r >>= λ xs. Ok (s ∷ xs)) (steps_again v t (n + 1) ss small a.1)
 
+-- the bytes of steps are cut into their lines
 lines-steps : (v : Version) (t : TowerSpec) (ss : List Step) → IsWithinBounds t → list_all (may_have v t) ss ≡ true → lines (schedule_text ss) ≡ step_lines ss
 lines-steps v t [] small h = refl
 lines-steps v t (s ∷ ss) small h =
     let a = and_parts (may_have v t s) (list_all (may_have v t) ss) h in
-    lines-line (step_text s) (schedule_text ss) (step_prints s (step_short t s small (fits_tower v t s a.0))) ∙ ap (λ ls. step_text s ∷ ls) (lines-steps v t ss small a.1)
+    lines-line (step_text s) (schedule_text ss) (step_printable s (fitting_step_short t s small (fits_tower v t s a.0))) ∙ ap (λ ls. step_text s ∷ ls) (lines-steps v t ss small a.1)
 
--- ---- plain bytes
+-- ---- no byte is foreign
 
-pub line_plain : (xs : List ℕ) → list_all is_print xs ≡ true → list_all is_file_byte (text_with_end xs) ≡ true
-line_plain xs h = all_append is_file_byte xs (10 ∷ []) (all_weaker is_print is_file_byte print_is_file_byte xs h) refl
+-- a printable line and its line end have no foreign byte
+pub line_plain : (xs : List ℕ) → list_all is_printable xs ≡ true → list_all is_file_byte (text_with_end xs) ≡ true
+line_plain xs h = all_append is_file_byte xs (10 ∷ []) (all_weaker is_printable is_file_byte printable_is_file_byte xs h) refl
 
+-- no byte of the steps is foreign
 steps_plain : (v : Version) (t : TowerSpec) (ss : List Step) → IsWithinBounds t → list_all (may_have v t) ss ≡ true → list_all is_file_byte (schedule_text ss) ≡ true
 steps_plain v t [] small h = refl
 steps_plain v t (s ∷ ss) small h =
     let a = and_parts (may_have v t s) (list_all (may_have v t) ss) h in
-    all_append is_file_byte (text_with_end (step_text s)) (schedule_text ss) (line_plain (step_text s) (step_prints s (step_short t s small (fits_tower v t s a.0)))) (steps_plain v t ss small a.1)
+    all_append is_file_byte (text_with_end (step_text s)) (schedule_text ss) (line_plain (step_text s) (step_printable s (fitting_step_short t s small (fits_tower v t s a.0)))) (steps_plain v t ss small a.1)
 
+-- if no byte is foreign, all bytes are before the first foreign one
 prefix_is_all : (xs : List ℕ) → list_all is_file_byte xs ≡ true → prefix_len (λ x. not (not (is_file_byte x))) xs ≡ length xs
 prefix_is_all [] h = refl
 prefix_is_all (x ∷ xs) h =
@@ -200,6 +212,7 @@ prefix_is_all (x ∷ xs) h =
     let rest = prefix_is_all xs a.1 in
     ap (λ b. cond (not (not b)) (1 + prefix_len (λ y. not (not (is_file_byte y))) xs) 0) a.0 ∙ omega (arith, rest)
 
+-- if each byte may be in a file, none is foreign
 pub none_foreign : (xs : List ℕ) → list_all is_file_byte xs ≡ true → first_foreign xs ≡ None
 none_foreign xs h =
     let n : ℕ = prefix_len (λ x. not (not (is_file_byte x))) xs in
@@ -207,33 +220,38 @@ none_foreign xs h =
 
 -- ---- files
 
+-- a tower's line, with its line end, is read as the tower
 pub tower_of_lines : (t : TowerSpec) (ls : List (List ℕ)) → is_end ls ≡ false → is_lawful_tower t ≡ true → tower_of (tower_text t ∷ ls) ≡ Ok t
 tower_of_lines t ls more h = ap (λ b. second_line b (words (tower_text t))) more ∙ tower_again t h
 
-header_prints : (v : Version) → list_all is_print (header v) ≡ true
-header_prints One = refl
-header_prints Two = refl
+header_printable : (v : Version) → list_all is_printable (header v) ≡ true
+header_printable One = refl
+header_printable Two = refl
 
+-- a version's header is read as the version
 version_again : (v : Version) (l : List ℕ) (ls : List (List ℕ)) → version_of (header v ∷ l ∷ ls) ≡ Some v
 version_again One l ls = refl
 version_again Two l ls = refl
 
+-- the bytes of a tower file are cut into its lines
 lines-spelling : (f : File) → IsLawfulFile f → lines (spelling f) ≡ header f.version ∷ tower_text f.spec ∷ step_lines f.steps
 lines-spelling f lawful =
     let a = and_parts (is_lawful_tower f.spec) (list_all (may_have f.version f.spec) f.steps) lawful in
     let small = within_bounds f.spec a.0 in
     ap lines (append_assoc (text_with_end (header f.version)) (text_with_end (tower_text f.spec)) (schedule_text f.steps))
-    ∙ lines-line (header f.version) (text_with_end (tower_text f.spec) ++ schedule_text f.steps) (header_prints f.version)
-    ∙ ap (λ ls. header f.version ∷ ls) (lines-line (tower_text f.spec) (schedule_text f.steps) (tower_prints f.spec a.0))
+    ∙ lines-line (header f.version) (text_with_end (tower_text f.spec) ++ schedule_text f.steps) (header_printable f.version)
+    ∙ ap (λ ls. header f.version ∷ ls) (lines-line (tower_text f.spec) (schedule_text f.steps) (tower_printable f.spec a.0))
     ∙ ap (λ ls. header f.version ∷ tower_text f.spec ∷ ls) (lines-steps f.version f.spec f.steps small a.1)
 
+-- no byte of a tower file is foreign
 spelling_plain : (f : File) → IsLawfulFile f → list_all is_file_byte (spelling f) ≡ true
 spelling_plain f lawful =
     let a = and_parts (is_lawful_tower f.spec) (list_all (may_have f.version f.spec) f.steps) lawful in
     all_append is_file_byte (text_with_end (header f.version) ++ text_with_end (tower_text f.spec)) (schedule_text f.steps)
-    (all_append is_file_byte (text_with_end (header f.version)) (text_with_end (tower_text f.spec)) (line_plain (header f.version) (header_prints f.version)) (line_plain (tower_text f.spec) (tower_prints f.spec a.0)))
+    (all_append is_file_byte (text_with_end (header f.version)) (text_with_end (tower_text f.spec)) (line_plain (header f.version) (header_printable f.version)) (line_plain (tower_text f.spec) (tower_printable f.spec a.0)))
     (steps_plain f.version f.spec f.steps (within_bounds f.spec a.0) a.1)
 
+-- the lines of a tower file are read as it
 file_again : (f : File) → IsLawfulFile f → file_of_lines (header f.version ∷ tower_text f.spec ∷ step_lines f.steps) ≡ Ok f
 file_again f lawful =
     let a = and_parts (is_lawful_tower f.spec) (list_all (may_have f.version f.spec) f.steps) lawful in
@@ -242,11 +260,13 @@ file_again f lawful =
     ∙ ap (λ (r : Result TowerSpec FileFault). r >>= λ t. steps_of f.version t 3 rest >>= λ ss. Ok (file_of f.version t ss)) (tower_of_lines f.spec (step_lines f.steps) (step_lines_nonempty f.steps) a.0)
     ∙ ap (λ (r : Result (List Step) FileFault). r >>= λ ss. Ok (file_of f.version f.spec ss)) (steps_again f.version f.spec 3 f.steps (within_bounds f.spec a.0) a.1)
 
+-- the bytes of a tower file are read as it
 reading-spelling : (f : File) → IsLawfulFile f → file_reading (spelling f) ≡ Ok f
 reading-spelling f lawful =
     ap (λ o. reading_from file_of_lines o (spelling f)) (none_foreign (spelling f) (spelling_plain f lawful))
     ∙ ap file_of_lines (lines-spelling f lawful)
     ∙ file_again f lawful
 
+-- bytes that spell a tower file are read as it
 pub reading_again : (bytes : List ℕ) (f : File) → Spells bytes f → file_reading bytes ≡ Ok f
 reading_again bytes f s = ap file_reading s.spelled ∙ reading-spelling f s.lawful

@@ -1,5 +1,5 @@
 -- Bytes that are read as a tower file spell that file.
-use Rattle.std.proofs.Common.{◌≡◌, ℕ, ◌+◌, Bool, true, false, cond, not, ◌==◌, List, [], ◌∷◌, ◌++◌, length, Option, Some, None, Result, Ok, Err, refl, sym, ap, ◌∙◌, subst, append_assoc}
+use Rattle.std.proofs.Common.{◌≡◌, ℕ, ◌+◌, Bool, true, false, cond, not, ◌==◌, List, [], ◌∷◌, ◌++◌, length, Option, Some, None, Ok, refl, sym, ap, ◌∙◌, subst, append_assoc}
 use Rattle.std.specs.Prelude.{codes}
 use Rattle.std.specs.Option.{ok_or}
 use Rattle.std.specs.List.{list_all, flat_map, join_with_byte}
@@ -14,7 +14,6 @@ use Rattle.tower_file.specs.declared.tower.TowerSpec.TheVariants as tower
 use Rattle.tower_file.specs.declared.line.TowerName.{TowerName}
 use Rattle.tower_file.specs.declared.line.TowerName.TheVariants.{Safe, Copies, Regular, Unary, Stamped, Matrix}
 use Rattle.tower_file.specs.declared.fault.FaultKind.TheVariants.{BadHeader, UnknownTower, BadField, BadStep, BadSize}
-use Rattle.tower_file.specs.declared.fault.FileFault.{FileFault}
 use Rattle.tower_file.specs.Faults.{fault}
 use Rattle.tower_file.specs.declared.version.Version.{Version}
 use Rattle.tower_file.specs.declared.version.Version.TheVariants.{One, Two}
@@ -26,31 +25,14 @@ use Rattle.words.specs.Steps.{step_of_words, step_text}
 use Rattle.tower_file.specs.Lines.{tower_name, tower_of_numbers, fitting_step}
 use Rattle.tower_file.specs.Spelling.{text_with_end, tower_text, spelling, Spells}
 use Rattle.tower_file.specs.Reading.{◌>>=◌, has_header, version_of, checked_tower, tower_of_fields, second_line, tower_of, steps_of, file_of_lines}
-use Rattle.words.proofs.Steps.{some_then, mapped, one_is, two_are, three_are, four_are, joined, is_word, step_is}
-
--- ---- steps that did not fail
-
-pub bind_ok : {A B : Type 0} (r : Result A FileFault) (f : A → Result B FileFault) (y : B) → (r >>= f) ≡ Ok y → (x : A) × (r ≡ Ok x) × (f x ≡ Ok y)
-bind_ok (Ok x) f y e = (x, refl, e)
-bind_ok (Err d) f y e = absurd cc
-
-pub ok_or_ok : {A : Type 0} (o : Option A) (d : FileFault) (x : A) → ok_or o d ≡ Ok x → o ≡ Some x
-ok_or_ok None d x e = absurd cc
-ok_or_ok (Some y) d x e = cc
-
-pub when_ok : {A : Type 0} (b : Bool) (r : Result A FileFault) (d : FileFault) (y : A) → cond b r (Err d) ≡ Ok y → (b ≡ true) × (r ≡ Ok y)
-when_ok true r d y e = (refl, e)
-when_ok false r d y e = absurd cc
-
-pub unless_ok : {A : Type 0} (b : Bool) (r : Result A FileFault) (d : FileFault) (y : A) → cond b (Err d) r ≡ Ok y → (b ≡ false) × (r ≡ Ok y)
-unless_ok true r d y e = absurd cc
-unless_ok false r d y e = (refl, e)
-
-pub ok_is : {A : Type 0} (x y : A) → (let r : Result A FileFault = Ok x in r) ≡ Ok y → x ≡ y
-ok_is x y e = cc
+use Rattle.words.proofs.Options.{some_then, some_mapped}
+use Rattle.words.proofs.NumberWords.{one_number_is, two_numbers_are, three_numbers_are, four_numbers_are, word_and_numbers_joined, same_word}
+use Rattle.words.proofs.Steps.{step_is}
+use Rattle.tower_file.proofs.Readings.{bind_ok, ok_or_ok, when_ok, unless_ok, ok_is}
 
 -- ---- the tower's line
 
+-- the first of several values whose test is passed: P holds of it, if P holds of each that passes
 choose : {A : Type 0} (P : A → Type 0) (b : Bool) (x k : A) (o : Option A) → (b ≡ true → P x) → (o ≡ Some k → P k) → cond b (Some x) o ≡ Some k → P k
 choose P true x k o f g h = subst P (same_Some x k h) (f refl)
 choose P false x k o f g h = g h
@@ -60,23 +42,23 @@ fields_are : (w : List ℕ) (ws : List (List ℕ)) (k : TowerName) (t : TowerSpe
 fields_are w ws k t h =
     let P : TowerName → Type 0 = λ n. tower_of_numbers n ws ≡ Some t → join_with_byte 32 (w ∷ ws) ≡ tower_text t in
     choose P (bytes_eq w (codes "safe")) Safe k _
-    (λ e f. let a = mapped (λ n. tower.Safe n) (one_number ws) t f in
-    joined w (codes "safe") ws (a.0 ∷ []) (is_word w (codes "safe") e) (one_is ws a.0 a.1) ∙ ap tower_text a.2)
+    (λ e f. let a = some_mapped (λ n. tower.Safe n) (one_number ws) t f in
+    word_and_numbers_joined w (codes "safe") ws (a.0 ∷ []) (same_word w (codes "safe") e) (one_number_is ws a.0 a.1) ∙ ap tower_text a.2)
     (choose P (bytes_eq w (codes "copies")) Copies k _
-    (λ e f. let a = mapped (λ n. tower.Copies n.0 n.1) (two_numbers ws) t f in
-    joined w (codes "copies") ws (a.0.0 ∷ a.0.1 ∷ []) (is_word w (codes "copies") e) (two_are ws a.0 a.1) ∙ ap tower_text a.2)
+    (λ e f. let a = some_mapped (λ n. tower.Copies n.0 n.1) (two_numbers ws) t f in
+    word_and_numbers_joined w (codes "copies") ws (a.0.0 ∷ a.0.1 ∷ []) (same_word w (codes "copies") e) (two_numbers_are ws a.0 a.1) ∙ ap tower_text a.2)
     (choose P (bytes_eq w (codes "regular")) Regular k _
-    (λ e f. let a = mapped (λ n. tower.Regular n.0 n.1) (two_numbers ws) t f in
-    joined w (codes "regular") ws (a.0.0 ∷ a.0.1 ∷ []) (is_word w (codes "regular") e) (two_are ws a.0 a.1) ∙ ap tower_text a.2)
+    (λ e f. let a = some_mapped (λ n. tower.Regular n.0 n.1) (two_numbers ws) t f in
+    word_and_numbers_joined w (codes "regular") ws (a.0.0 ∷ a.0.1 ∷ []) (same_word w (codes "regular") e) (two_numbers_are ws a.0 a.1) ∙ ap tower_text a.2)
     (choose P (bytes_eq w (codes "unary")) Unary k _
-    (λ e f. let a = mapped (λ n. tower.Unary n.0 n.1 n.2) (three_numbers ws) t f in
-    joined w (codes "unary") ws (a.0.0 ∷ a.0.1 ∷ a.0.2 ∷ []) (is_word w (codes "unary") e) (three_are ws a.0 a.1) ∙ ap tower_text a.2)
+    (λ e f. let a = some_mapped (λ n. tower.Unary n.0 n.1 n.2) (three_numbers ws) t f in
+    word_and_numbers_joined w (codes "unary") ws (a.0.0 ∷ a.0.1 ∷ a.0.2 ∷ []) (same_word w (codes "unary") e) (three_numbers_are ws a.0 a.1) ∙ ap tower_text a.2)
     (choose P (bytes_eq w (codes "stamped")) Stamped k _
-    (λ e f. let a = mapped (λ n. tower.Stamped n.0 n.1) (two_numbers ws) t f in
-    joined w (codes "stamped") ws (a.0.0 ∷ a.0.1 ∷ []) (is_word w (codes "stamped") e) (two_are ws a.0 a.1) ∙ ap tower_text a.2)
+    (λ e f. let a = some_mapped (λ n. tower.Stamped n.0 n.1) (two_numbers ws) t f in
+    word_and_numbers_joined w (codes "stamped") ws (a.0.0 ∷ a.0.1 ∷ []) (same_word w (codes "stamped") e) (two_numbers_are ws a.0 a.1) ∙ ap tower_text a.2)
     (choose P (bytes_eq w (codes "matrix")) Matrix k None
-    (λ e f. let a = mapped (λ n. tower.Matrix n.0 n.1 n.2 n.3) (four_numbers ws) t f in
-    joined w (codes "matrix") ws (a.0.0 ∷ a.0.1 ∷ a.0.2 ∷ a.0.3 ∷ []) (is_word w (codes "matrix") e) (four_are ws a.0 a.1) ∙ ap tower_text a.2)
+    (λ e f. let a = some_mapped (λ n. tower.Matrix n.0 n.1 n.2 n.3) (four_numbers ws) t f in
+    word_and_numbers_joined w (codes "matrix") ws (a.0.0 ∷ a.0.1 ∷ a.0.2 ∷ a.0.3 ∷ []) (same_word w (codes "matrix") e) (four_numbers_are ws a.0 a.1) ∙ ap tower_text a.2)
     (λ e. absurd cc)))))) h
 
 -- the second line has its line end, and is the line of a lawful tower
@@ -85,9 +67,10 @@ pub record IsTowerLine (is_cut : Bool) (line : List ℕ) (t : TowerSpec) : Type 
   pub spelled : line ≡ tower_text t
   pub lawful : is_lawful_tower t ≡ true
 
-second_is : (is_cut : Bool) (ws : List (List ℕ)) (t : TowerSpec) → second_line is_cut ws ≡ Ok t → IsTowerLine is_cut (join_with_byte 32 ws) t
-second_is is_cut [] t h = absurd cc
-second_is is_cut (w ∷ ws) t h =
+-- a second line that is read as a tower is the tower's
+second_line_is : (is_cut : Bool) (ws : List (List ℕ)) (t : TowerSpec) → second_line is_cut ws ≡ Ok t → IsTowerLine is_cut (join_with_byte 32 ws) t
+second_line_is is_cut [] t h = absurd cc
+second_line_is is_cut (w ∷ ws) t h =
     let a = bind_ok (ok_or (tower_name w) (fault UnknownTower 2)) (tower_of_fields is_cut ws) t h in
     let b = unless_ok is_cut (ok_or (tower_of_numbers a.0 ws) (fault BadField 2) >>= checked_tower) (fault BadField 2) t a.2 in
     let c = bind_ok (ok_or (tower_of_numbers a.0 ws) (fault BadField 2)) checked_tower t b.1 in
@@ -102,6 +85,7 @@ second_is is_cut (w ∷ ws) t h =
 
 -- ---- the steps
 
+-- a line that is read as a fitting step is that step's text
 pub fitting_is : (v : Version) (t : TowerSpec) (l : List ℕ) (s : Step) → fitting_step v t l ≡ Some s → (l ≡ step_text s) × (may_have v t s ≡ true)
 fitting_is v t l s h =
     let a = some_then (step_of_words (words l)) (λ x. cond (may_have v t x) (Some x) None) s h in
@@ -113,6 +97,7 @@ pub record AreSteps (v : Version) (t : TowerSpec) (bytes : List ℕ) (ss : List 
   pub spelled : bytes ≡ flat_map (λ s. text_with_end (step_text s)) ss
   pub fit : list_all (may_have v t) ss ≡ true
 
+-- lines that are read as steps are the lines of these steps
 pub steps_are : (v : Version) (t : TowerSpec) (n : ℕ) (ls : List (List ℕ)) (ss : List Step) → steps_of v t n ls ≡ Ok ss → AreSteps v t (join_with_byte 10 ls) ss
 unfolding steps_of
 steps_are v t n [] ss h =
@@ -133,29 +118,35 @@ steps_are v t n (l ∷ k ∷ ls) ss h =
 
 -- ---- files
 
+-- a first line that is a header is this header, and has its line end
 pub header_is : (text : List ℕ) (ls : List (List ℕ)) → has_header text ls ≡ true → (next ls ≡ text) × (is_end (after_next ls) ≡ false)
 header_is text ls h =
     let a = and_parts (not (is_end (after_next ls))) (bytes_eq (next ls) text) h in
-    (is_word (next ls) text a.1, is_false (is_end (after_next ls)) a.0)
+    (same_word (next ls) text a.1, is_false (is_end (after_next ls)) a.0)
   where
     is_false : (b : Bool) → not b ≡ true → b ≡ false
     is_false true e = absurd cc
     is_false false e = refl
 
+-- a first line that is read as a version is the version's header, and has its line end
 version_is : (ls : List (List ℕ)) (v : Version) → version_of ls ≡ Some v → (next ls ≡ header v) × (is_end (after_next ls) ≡ false)
 version_is ls v h =
     let P : Version → Type 0 = λ x. (next ls ≡ header x) × (is_end (after_next ls) ≡ false) in
     choose P (has_header (header One) ls) One v _ (header_is (header One) ls)
     (choose P (has_header (header Two) ls) Two v None (header_is (header Two) ls) (λ e. absurd cc)) h
 
+-- lines that are read as a tower begin with the tower's line
 pub tower_line : (ls : List (List ℕ)) (t : TowerSpec) → tower_of ls ≡ Ok t → IsTowerLine (is_end (after_next ls)) (next ls) t
 tower_line ls t h =
-    let c = second_is (is_end (after_next ls)) (words (next ls)) t h in
+    let c = second_line_is (is_end (after_next ls)) (words (next ls)) t h in
     record { whole = c.whole; spelled = sym (join_with_byte-slice_split 32 (next ls)) ∙ c.spelled; lawful = c.lawful }
 
-pub three_lines : (h t others : List ℕ) → h ++ 10 ∷ (t ++ 10 ∷ others) ≡ text_with_end h ++ text_with_end t ++ others
-three_lines h t others = simp append_assoc
+-- two lines, joined with more bytes, have a line end each
+pub two_lines_and_more : (h t others : List ℕ) → h ++ 10 ∷ (t ++ 10 ∷ others) ≡ text_with_end h ++ text_with_end t ++ others
+two_lines_and_more h t others = simp append_assoc
 
+-- lines that begin with a version's header and a tower's line, and then are those of steps, are the
+-- spelling of a file
 whole_file : (ls : List (List ℕ)) (v : Version) (t : TowerSpec) (ss : List Step) → next ls ≡ header v → is_end (after_next ls) ≡ false
     → IsTowerLine (is_end (after_next (after_next ls))) (next (after_next ls)) t
     → AreSteps v t (join_with_byte 10 (after_next (after_next ls))) ss → join_with_byte 10 ls ≡ spelling (file_of v t ss)
@@ -166,8 +157,9 @@ whole_file (l ∷ k ∷ r ∷ rs) v t ss e more tower steps =
     ap (λ x. x ++ 10 ∷ (k ++ 10 ∷ join_with_byte 10 (r ∷ rs))) e
     ∙ ap (λ x. header v ++ 10 ∷ (x ++ 10 ∷ join_with_byte 10 (r ∷ rs))) tower.spelled
     ∙ ap (λ x. header v ++ 10 ∷ (tower_text t ++ 10 ∷ x)) steps.spelled
-    ∙ three_lines (header v) (tower_text t) (flat_map (λ s. text_with_end (step_text s)) ss)
+    ∙ two_lines_and_more (header v) (tower_text t) (flat_map (λ s. text_with_end (step_text s)) ss)
 
+-- lines that are read as a file spell it
 pub file_is : (ls : List (List ℕ)) (f : File) → file_of_lines ls ≡ Ok f → Spells (join_with_byte 10 ls) f
 file_is ls f h =
     let d = bind_ok (ok_or (version_of ls) (fault BadHeader 1)) (λ v. tower_of (after_next ls) >>= λ t. steps_of v t 3 (after_next (after_next ls)) >>= λ ss. Ok (file_of v t ss)) f h in

@@ -2,7 +2,7 @@
 use Rattle.std.specs.Prelude.{◌≡◌, ℕ, List, [], ◌∷◌, ◌++◌, None, codes, true}
 use Rattle.std.specs.List.{flat_map, join_with_byte}
 use Rattle.branch_terms.specs.declared.limb.Limb.{Limb}
-use Rattle.words.specs.Steps.{text, step_text}
+use Rattle.words.specs.Steps.{word_with_numbers, step_text}
 use Rattle.tower_file.specs.declared.tower.TowerSpec.{TowerSpec}
 use Rattle.tower_file.specs.Benches.{Bench, IsLawfulBench, has_limbs, are_lawful}
 use Rattle.tower_file.specs.Spelling.{text_with_end, tower_text}
@@ -16,7 +16,7 @@ bench_header = codes "bench 1"
 -- number of the branch that the limb's branch starts from, and how many cells the two branches
 -- share
 abbrev pub branch_text : Limb → List ℕ
-branch_text l = codes "branch" ++ 32 ∷ text l.name (l.from ∷ l.shared ∷ [])
+branch_text l = codes "branch" ++ 32 ∷ word_with_numbers l.name (l.from ∷ l.shared ∷ [])
 
 -- the lines of a limb: its branch and its own steps, each on a line
 abbrev pub limb_text : Limb → List ℕ

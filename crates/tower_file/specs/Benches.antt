@@ -21,14 +21,14 @@ has_limbs [] = false
 has_limbs (l ∷ ls) = true
 
 -- whether the limb's `from` and `shared` have at most 9 digits, and its steps fit the tower
-abbrev pub has_fit : TowerSpec → Limb → Bool
-has_fit t l = (nat_lt l.from (10 ^ 9) && nat_lt l.shared (10 ^ 9)) && list_all (fits t) l.steps
+abbrev pub is_fitting : TowerSpec → Limb → Bool
+is_fitting t l = (nat_lt l.from (10 ^ 9) && nat_lt l.shared (10 ^ 9)) && list_all (fits t) l.steps
 
 -- whether a bench file on this tower can have these limbs: each has a new name and satisfies
 -- `may_share`, given the limbs before it; its `from` and `shared` have at most 9 digits; and its
 -- steps fit the tower
 abbrev pub are_lawful : TowerSpec → List Limb → Bool
-are_lawful t limbs = are_lawful_after [] limbs && list_all (has_fit t) limbs
+are_lawful t limbs = are_lawful_after [] limbs && list_all (is_fitting t) limbs
 
 -- whether the tower is lawful, there is at least one limb, and a bench file on this tower can have
 -- these limbs

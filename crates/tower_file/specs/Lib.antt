@@ -8,5 +8,4 @@ pub mod Reading
 pub mod Benches
 pub mod BenchSpelling
 pub mod BenchReading
-pub mod BenchRows
 pub mod Parsed

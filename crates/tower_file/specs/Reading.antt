@@ -102,15 +102,15 @@ reading_from of_lines None bytes = of_lines (lines bytes)
 
 -- the first fault of the bytes, given the index of their first foreign byte and e, the fault of
 -- their lines: NotAscii on the line of the foreign byte; or e, if no byte is foreign
-abbrev pub fault_in_order : Option ℕ → List ℕ → FileFault → FileFault
-fault_in_order (Some k) bytes e = fault NotAscii (line_at k bytes)
-fault_in_order None bytes e = e
+abbrev pub first_fault : Option ℕ → List ℕ → FileFault → FileFault
+first_fault (Some k) bytes e = fault NotAscii (line_at k bytes)
+first_fault None bytes e = e
 
 -- the result of reading the bytes' lines. But if that result is a fault, and some byte is foreign,
 -- the fault is replaced by NotAscii on the line of the first foreign byte.
 abbrev pub foreign_first : {Y : Type 0} → List ℕ → Result Y FileFault → Result Y FileFault
 foreign_first bytes (Ok y) = Ok y
-foreign_first bytes (Err e) = Err (fault_in_order (first_foreign bytes) bytes e)
+foreign_first bytes (Err e) = Err (first_fault (first_foreign bytes) bytes e)
 
 -- Unless memory ran out, a parser's result for these bytes is the file that they spell, or their
 -- first fault if they spell no file.

@@ -4,7 +4,7 @@ use Rattle.std.specs.List.{flat_map}
 use Rattle.frames.specs.declared.types.Step.{Step}
 use Rattle.tower_file.specs.declared.tower.TowerSpec.{TowerSpec}
 use Rattle.tower_file.specs.declared.tower.TowerSpec.TheVariants.{Safe, Copies, Regular, Unary, Stamped, Matrix}
-use Rattle.words.specs.Steps.{text, step_text}
+use Rattle.words.specs.Steps.{word_with_numbers, step_text}
 use Rattle.tower_file.specs.Versions.{header}
 use Rattle.tower_file.specs.Files.{File, IsLawfulFile}
 
@@ -18,12 +18,12 @@ schedule_text ss = flat_map (λ s. text_with_end (step_text s)) ss
 
 -- the line of a tower, without a line end: its name and its numbers
 abbrev pub tower_text : TowerSpec → List ℕ
-tower_text (Safe init) = text (codes "safe") (init ∷ [])
-tower_text (Copies readers init) = text (codes "copies") (readers ∷ init ∷ [])
-tower_text (Regular readers init) = text (codes "regular") (readers ∷ init ∷ [])
-tower_text (Unary values readers init) = text (codes "unary") (values ∷ readers ∷ init ∷ [])
-tower_text (Stamped values last) = text (codes "stamped") (values ∷ last ∷ [])
-tower_text (Matrix processes values last_tag last_stamp) = text (codes "matrix") (processes ∷ values ∷ last_tag ∷ last_stamp ∷ [])
+tower_text (Safe init) = word_with_numbers (codes "safe") (init ∷ [])
+tower_text (Copies readers init) = word_with_numbers (codes "copies") (readers ∷ init ∷ [])
+tower_text (Regular readers init) = word_with_numbers (codes "regular") (readers ∷ init ∷ [])
+tower_text (Unary values readers init) = word_with_numbers (codes "unary") (values ∷ readers ∷ init ∷ [])
+tower_text (Stamped values last) = word_with_numbers (codes "stamped") (values ∷ last ∷ [])
+tower_text (Matrix processes values last_tag last_stamp) = word_with_numbers (codes "matrix") (processes ∷ values ∷ last_tag ∷ last_stamp ∷ [])
 
 -- the bytes of a tower file: the header, the tower and the steps, each on a line
 abbrev pub spelling : File → List ℕ

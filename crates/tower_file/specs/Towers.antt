@@ -6,7 +6,7 @@ use Rattle.frames.specs.declared.types.Op.TheVariants as op
 use Rattle.frames.specs.declared.types.Step.{Step}
 use Rattle.frames.specs.declared.limits.TheConstants.{LEAST_PROCESSES, LEAST_VALUES, MOST_READERS, MOST_VALUES, MOST_WRITERS}
 use Rattle.frames.specs.declared.register.TheConstants.{MOST_CELLS}
-use Rattle.frames.specs.Fitting.{Roles, step_fits}
+use Rattle.frames.specs.Fitting.{Roles, fits_roles}
 use Rattle.frames.specs.OneWriter.{one_writer}
 use Rattle.tower_file.specs.declared.tower.TowerSpec.{TowerSpec}
 use Rattle.tower_file.specs.declared.tower.TowerSpec.TheVariants.{Safe, Copies, Regular, Unary, Stamped, Matrix}
@@ -72,4 +72,4 @@ roles t = record { processes = processes_of t; suits = suits t }
 -- whether a step fits the tower: its process exists and may make such a step, a value to be written
 -- is one of the tower's values, and a choice is 0 or 1
 abbrev pub fits : TowerSpec → Step → Bool
-fits t s = step_fits (roles t) s
+fits t s = fits_roles (roles t) s

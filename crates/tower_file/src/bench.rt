@@ -3,7 +3,7 @@
 ghost use Rattle.std.specs.Prelude.{◌≡◌, ◌^◌, nat_lt};
 ghost use Rattle.std.specs.List.{list_all};
 ghost use Rattle.tower_file.specs.Benches as spec;
-ghost use Rattle.tower_file.specs.Benches.{IsLawfulBench, bench_of, has_fit};
+ghost use Rattle.tower_file.specs.Benches.{IsLawfulBench, bench_of, is_fitting};
 ghost use Rattle.tower_file.specs.Towers.{fits};
 
 use crate::tower::TowerSpec;
@@ -59,14 +59,14 @@ impl BenchFile {
 
 /// Whether each limb's `from` and `shared` are below 10^9, and its steps fit the tower.
 fn all_fit(tower: &TowerSpec, limbs: &[Limb]) -> bool
-    ensures { result ≡ list_all (has_fit tower.now) limbs.now }
+    ensures { result ≡ list_all (is_fitting tower.now) limbs.now }
 {
-    limbs.iter().all(|limb| has_fit(tower, limb))
+    limbs.iter().all(|limb| is_fitting(tower, limb))
 }
 
 /// Whether a limb's `from` and `shared` are below 10^9, and its steps fit the tower.
-fn has_fit(tower: &TowerSpec, limb: &Limb) -> bool
-    ensures { result ≡ spec.has_fit tower.now limb.now }
+fn is_fitting(tower: &TowerSpec, limb: &Limb) -> bool
+    ensures { result ≡ spec.is_fitting tower.now limb.now }
 {
     is_short(limb.from) && is_short(limb.shared) && steps_fit(tower, limb.steps.as_slice())
 }

@@ -148,7 +148,7 @@ fn limbs_of(alloc: Global, tower: &TowerSpec, lines: &mut Lines<'_>) -> Result<V
 }
 
 /// Reads the lines of a bench file, without a check for bytes that no file may have.
-#[tactic(auto, using(crate::proofs::StepLoop::fewer_left))]
+#[tactic(auto, using(crate::proofs::LinesLeft::no_more_after_line))]
 fn bench_of_lines(alloc: Global, bytes: &[u8]) -> Result<BenchFile, FileFault>
     ensures exact { Gives as_bench result (spec.bench_of_lines (lines bytes.now)) }
     ensures memory { MemoryOnlyIf result (first_foreign bytes.now ≡ None → SpellsFront bytes.now) }

@@ -92,7 +92,7 @@ impl NamedLimbs {
     }
 }
 
-/// Adds a step to the last limb. Does nothing if there is no limb.
+/// Adds a step to the last of these limbs, if there is one. Changes no limb's name.
 fn put_step(limbs: &mut Vec<Limb>, step: Step) -> Result<(), AllocError>
     ensures put { OnOk result (limbs.new.items ≡ put_step limbs.old.items step) }
     ensures names { map limb_name limbs.new.items ≡ map limb_name limbs.old.items }

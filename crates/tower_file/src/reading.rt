@@ -173,7 +173,7 @@ fn steps_of(
 
 /// Reads the lines of a file, without a check for bytes that no file may have. Only the steps need
 /// memory.
-#[tactic(auto, using(crate::proofs::StepLoop::fewer_left))]
+#[tactic(auto, using(crate::proofs::LinesLeft::no_more_after_line))]
 fn file_of_lines(alloc: Global, bytes: &[u8]) -> Result<TowerFile, FileFault>
     ensures exact { Gives as_file result (spec.file_of_lines (lines bytes.now)) }
     ensures memory { MemoryOnlyIf result
@@ -191,7 +191,7 @@ fn file_of_lines(alloc: Global, bytes: &[u8]) -> Result<TowerFile, FileFault>
 /// The first fault of the bytes: NotAscii if some byte is foreign, and otherwise `of_lines`, the
 /// fault that reading the lines gave.
 fn first_fault(bytes: &[u8], of_lines: FileFault) -> FileFault
-    ensures { result ≡ spec.fault_in_order (spec.first_foreign bytes.now) bytes.now of_lines }
+    ensures { result ≡ spec.first_fault (spec.first_foreign bytes.now) bytes.now of_lines }
 {
     match first_foreign(bytes) {
         Some(place) => fault(FaultKind::NotAscii, line_at(place, bytes)),

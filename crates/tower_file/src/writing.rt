@@ -1,7 +1,7 @@
 //! Writing a tower file.
 
 ghost use Rattle.std.specs.Prelude.{◌≡◌, ◌++◌, OnOk, IfOk};
-ghost use Rattle.words.specs.Steps.{text, step_text};
+ghost use Rattle.words.specs.Steps.{word_with_numbers, step_text};
 ghost use Rattle.tower_file.specs.Spelling.{Spells, text_with_end, tower_text};
 ghost use Rattle.tower_file.specs.Parsed.{as_file};
 
@@ -9,7 +9,7 @@ use crate::file::TowerFile;
 use crate::tower::TowerSpec;
 use frames::types::Step;
 use std::alloc::{AllocError, Global};
-use words::step::{push_step, push_words};
+use words::step::{push_step, push_word_with_numbers};
 
 /// Returns the bytes that spell `file`. The only error is that memory ran out.
 pub fn print(alloc: Global, file: &TowerFile) -> Result<Vec<u8>, AllocError>
@@ -59,9 +59,9 @@ pub(crate) fn push_step_line(out: &mut Vec<u8>, step: Step) -> Result<(), AllocE
 /// Adds a line at the end of `out`: a word, each number with a space before it, and a line end.
 pub(crate) fn push_line(out: &mut Vec<u8>, word: &str, numbers: &[u32]) -> Result<(), AllocError>
     ensures { OnOk result
-        (out.new.items ≡ out.old.items ++ text_with_end (text word.now numbers.now)) }
+        (out.new.items ≡ out.old.items ++ text_with_end (word_with_numbers word.now numbers.now)) }
 {
-    push_words(out, word, numbers)?;
+    push_word_with_numbers(out, word, numbers)?;
     out.push(b'\n')?;
     Ok(())
 }

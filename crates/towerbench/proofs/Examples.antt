@@ -12,7 +12,7 @@ use Rattle.tower_file.specs.Benches.{Bench}
 use Rattle.tower_file.specs.BenchSpelling.{bench_spelling}
 use Rattle.tower_file.proofs.ReadBack.{reading_again}
 use Rattle.conversation.specs.declared.fault.StreamFault.TheVariants as stream
-use Rattle.conversation.specs.Moments.{Streams, streams}
+use Rattle.conversation.specs.Streams.{Streams, streams}
 use Rattle.conversation.specs.Conversations.{Answering}
 use Rattle.command_line.specs.CommandLine.{Says, default_options}
 use Rattle.command_line.specs.Ranges.{AreOptionsInRange, limits_of}
@@ -20,8 +20,9 @@ use Rattle.towerbench.specs.declared.fault.Fault.TheVariants as fault
 use Rattle.towerbench.specs.declared.fault.ProgramFault.TheVariants.{Memory}
 use Rattle.towerbench.specs.declared.ending.Ending.{Ending}
 use Rattle.towerbench.specs.declared.ending.Ending.TheVariants.{Done, Refused, Faulted}
-use Rattle.towerbench.specs.Streams.{IsOfStreams, EndsWithStreamFault}
-use Rattle.towerbench.specs.Opening.{one_branch, IsDone, Ran, MayNeedMemory, FailsOver, FailsOnceOpen, RanLeaving, RanSaving, SavesInto}
+use Rattle.towerbench.specs.StreamFaults.{IsOfStreams, EndsWithStreamFault}
+use Rattle.towerbench.specs.BenchSources.{one_branch, MayNeedMemory}
+use Rattle.towerbench.specs.RunEndings.{IsDone, Ran, FailsOver, FailsOnceOpen, RanLeaving, RanSaving, RanSavingInto}
 use Rattle.towerbench.specs.Endings.{WorksOut, RunsBy, IsPrinted, ProgramEndsBy, exit_status}
 
 -- a safe bit at 0 with one branch without steps, as without a file
@@ -138,14 +139,14 @@ RanSaving-fails h = no_bench h.0 h.1.left (h.1.spells.spelled) h.2
     no_bench bytes left spelled none = let e : 7 ≡ 98 = ap (λ bytes. slice_index_or bytes 0 7) (none ∙ spelled) in omega (arith, e)
 
 -- the first write to the saver failed
-SavesInto-holds : SavesInto None limits nothing nothing empty empty fault.Save
-SavesInto-holds = inr (refl, (bench_spelling bench, leaving, ([], (bench_spelling bench, refl), refl)))
+RanSavingInto-holds : RanSavingInto None limits nothing nothing empty empty fault.Save
+RanSavingInto-holds = inr (refl, (bench_spelling bench, leaving, ([], (bench_spelling bench, refl), refl)))
 
 -- a save failed, although a byte of the script was left unread
-SavesInto-fails : SavesInto None limits one_byte one_byte empty empty fault.Save → ⊥
-SavesInto-fails (inl (inl h, kept)) = absurd h.0
-SavesInto-fails (inl (inr h, kept)) = FailsOver-fails h.0 one_byte one_byte h.1.1
-SavesInto-fails (inr h) = some_left h.1.1.leaves.done.answered.ended
+RanSavingInto-fails : RanSavingInto None limits one_byte one_byte empty empty fault.Save → ⊥
+RanSavingInto-fails (inl (inl h, kept)) = absurd h.0
+RanSavingInto-fails (inl (inr h, kept)) = FailsOver-fails h.0 one_byte one_byte h.1.1
+RanSavingInto-fails (inr h) = some_left h.1.1.leaves.done.answered.ended
 
 -- no file is named, and an empty script was answered
 WorksOut-holds : WorksOut false limits false nothing nothing Done

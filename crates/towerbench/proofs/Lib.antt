@@ -1,7 +1,7 @@
 pub mod RunEndings
 pub mod LookAnswers
 pub mod Endings
-pub mod Replies
+pub mod DeskCalls
 pub mod UnchangedTower
 pub mod Benches
 mod Examples

@@ -1,41 +1,26 @@
 -- How a run of the program ends, given what was answered at its desk.
-use Rattle.std.proofs.Common.{◌≡◌, ◌≤◌, ℕ, List, Ok, subst, sym, ap, ◌∙◌}
-use Rattle.frames.specs.declared.types.Step.{Step}
+use Rattle.std.proofs.Common.{◌≡◌, ◌≤◌, Ok, subst, sym, ap, ◌∙◌}
 use Rattle.frames.specs.Behaviour.{Behaviour}
 use Rattle.frames.specs.Configuration.{fits_step}
-use Rattle.schedule_trie.specs.declared.limb.Limb.{Limb}
 use Rattle.schedule_trie.specs.declared.limits.Limits.{Limits}
 use Rattle.schedule_trie.specs.Limbs.{forest_of, limbs, loaded}
-use Rattle.tower_file.specs.declared.tower.TowerSpec.{TowerSpec}
-use Rattle.tower_file.specs.Towers.{fits}
 use Rattle.tower_file.specs.Benches.{Bench, bench_of}
 use Rattle.std.specs.Io.KnownBytes.{Appends}
 use Rattle.branch_terms.specs.declared.limits.TheConstants.{MOST_CELLS_MADE}
-use Rattle.sessions.specs.World.{World, opening_of_limbs}
+use Rattle.sessions.specs.World.{World}
 use Rattle.script.specs.Answers.{answer_line}
 use Rattle.conversation.specs.declared.fault.StreamFault.{StreamFault}
 use Rattle.tower_file.specs.Parsed.{as_bench}
-use Rattle.conversation.specs.Moments.{Streams}
+use Rattle.conversation.specs.Streams.{Streams}
 use Rattle.conversation.specs.Scripts.{answers_to, lines_of}
 use Rattle.conversation.specs.Conversations.{EndsWithFault, Leaves}
 use Rattle.command_line.specs.Ranges.{limits_of}
 use Rattle.towerbench.specs.declared.opening.Opening.{Opening}
-use Rattle.towerbench.specs.Opening.{Course, course_on, IsEndedByFault, IsLeftBench}
-use Rattle.towerbench.proofs.UnchangedTower.{HasTowerOf, tower_unchanged}
-use Rattle.towerbench.specs.Opening.{course_from, course_of, IsDone}
-use Rattle.towerbench.specs.DeskOpenings.{Builds, CanOpen, IsOnTower, opening_world}
+use Rattle.towerbench.specs.Courses.{Course, course_on, course_from}
+use Rattle.towerbench.specs.RunEndings.{IsEndedByFault, IsLeftBench, IsDone}
+use Rattle.towerbench.proofs.UnchangedTower.{HasTowerAndLimitsOf, tower_unchanged}
+use Rattle.towerbench.specs.DeskOpenings.{CanOpen, IsOnTower, opening_world}
 use Rattle.towerbench.proofs.Benches.{tower_lawful}
-
--- a register builds a tower if the same steps fit its behaviour, and the course of scripts on it is
--- the tower's
-pub builds_as : {R P : Type 0} (is : R → Behaviour P) (register : R) (value : ℕ) (b : Behaviour P) (given tower : TowerSpec) → is register ≡ b → tower ≡ given
-    → ((s : Step) → fits tower s ≡ fits_step b s) → ((limits : Limits) (ls : List Limb) → course_of tower limits ls ≡ course_from (opening_of_limbs b value limits ls))
-    → Builds is register value given
-builds_as is register value b given tower register_is tower_is alike course =
-    record {
-      alike = λ s. ap (λ t. fits t s) (sym tower_is) ∙ alike s ∙ ap (λ x. fits_step x s) (sym register_is);
-      course = λ limits ls. ap (λ t. course_of t limits ls) (sym tower_is) ∙ course limits ls ∙ ap (λ x. course_from (opening_of_limbs x value limits ls)) (sym register_is);
-    }
 
 -- How a run from an opening ends, given what was answered at its desk from the world before the
 -- first line.
@@ -43,13 +28,16 @@ module _ {R P : Type 0} (is : R → Behaviour P) (o : Opening R) (can : CanOpen 
   abbrev limits_at : Limits
   limits_at = limits_of o.setup.options
 
+  -- the course of scripts on the opening's bench is the course from w
   course_is : course_on (as_bench o.setup.bench) limits_at ≡ course_from w
   course_is = can.builds.course limits_at o.setup.bench.limbs ∙ ap course_from (sym at)
 
   module _ (before after : Streams) (room : loaded limits_at o.setup.bench.limbs ≡ Ok (forest_of o.setup.bench.limbs)) where
+    -- a fault of the streams of a script that w answers ends the run as `IsEndedByFault` says
     pub ended_by_fault_at : (e : StreamFault) → EndsWithFault (answers_to answer_line w) e before after → IsEndedByFault limits_at (as_bench o.setup.bench) e before after
     ended_by_fault_at e h = record { room = room; ended = subst (λ (c : Course). EndsWithFault c.answering e before after) (sym course_is) h }
 
+    -- a script was answered to its end, and left world v
     module _ (v : World P) (leaves : Leaves answer_line w v before after) where
       pub done_at : IsDone limits_at (as_bench o.setup.bench) before after
       done_at =
@@ -76,10 +64,10 @@ module _ {R P : Type 0} (is : R → Behaviour P) (o : Opening R) (can : CanOpen 
             branches = ap (λ (b : Bench). b.limbs) is_left ∙ ap limbs (ap (λ (x : World P). x.forest) leaves.left ∙ ap (λ (c : Course). c.leaving (lines_of a.script) a.marks) (sym course_is));
           }
 
-      same_tower : HasTowerOf w v
+      same_tower : HasTowerAndLimitsOf w v
       same_tower =
           let a = leaves.answered in
-          subst (HasTowerOf w) (sym leaves.left) (tower_unchanged w (lines_of a.script) a.marks)
+          subst (HasTowerAndLimitsOf w) (sym leaves.left) (tower_unchanged w (lines_of a.script) a.marks)
 
       pub on_tower_at : IsOnTower o.setup.bench.spec v
       on_tower_at =

@@ -17,22 +17,22 @@ use Rattle.script.specs.Answers.{carried_out, answer_line, answer_to, performed,
 use Rattle.conversation.specs.Scripts.{Marks, ScriptProgress, after_lines, beginning, next_line}
 
 -- world v has the tower and the limits of world w
-pub record HasTowerOf {P : Type 0} (w v : World P) : Type 0 where
+pub record HasTowerAndLimitsOf {P : Type 0} (w v : World P) : Type 0 where
   pub tower : v.tower ≡ w.tower
   pub limits : v.limits ≡ w.limits
 
 module _ {P : Type 0} where
-  unchanged : (w : World P) → HasTowerOf w w
+  unchanged : (w : World P) → HasTowerAndLimitsOf w w
   unchanged w = record { tower = refl; limits = refl }
 
-  unchanged_then : (u v w : World P) → HasTowerOf u v → HasTowerOf v w → HasTowerOf u w
+  unchanged_then : (u v w : World P) → HasTowerAndLimitsOf u v → HasTowerAndLimitsOf v w → HasTowerAndLimitsOf u w
   unchanged_then u v w a b = record { tower = b.tower ∙ a.tower; limits = b.limits ∙ a.limits }
 
-  after_edit : (o : Option Edit) (who : ℕ) (c : Command) (w : World P) → HasTowerOf w (accepted_world_by o who c w)
+  after_edit : (o : Option Edit) (who : ℕ) (c : Command) (w : World P) → HasTowerAndLimitsOf w (accepted_world_by o who c w)
   after_edit (Some edit) who c w = record { tower = refl; limits = refl }
   after_edit None who c w = record { tower = refl; limits = refl }
 
-  after_refusal : (r : Refusal) (w : World P) → HasTowerOf w (refused_world r w)
+  after_refusal : (r : Refusal) (w : World P) → HasTowerAndLimitsOf w (refused_world r w)
   after_refusal refusal.NoBranch w = record { tower = refl; limits = refl }
   after_refusal refusal.NameTaken w = record { tower = refl; limits = refl }
   after_refusal refusal.BadName w = record { tower = refl; limits = refl }
@@ -49,34 +49,34 @@ module _ {P : Type 0} where
   after_refusal refusal.BadLine w = record { tower = refl; limits = refl }
   after_refusal refusal.Memory w = record { tower = refl; limits = refl }
 
-  after_answer : (o : Option Refusal) (who : ℕ) (c : Command) (w : World P) → HasTowerOf w (answered o who c w).world
+  after_answer : (o : Option Refusal) (who : ℕ) (c : Command) (w : World P) → HasTowerAndLimitsOf w (answered o who c w).world
   after_answer None who c w = after_edit (edit_of c) who c w
   after_answer (Some r) who c w = after_refusal r w
 
-  after_refused_memory : (full : Bool) (own : CommandResult P) (w : World P) → HasTowerOf w own.world → HasTowerOf w (without_memory full own w).world
+  after_refused_memory : (full : Bool) (own : CommandResult P) (w : World P) → HasTowerAndLimitsOf w own.world → HasTowerAndLimitsOf w (without_memory full own w).world
   after_refused_memory true own w h = h
   after_refused_memory false own w h = unchanged w
 
-  after_act : (memory : Bool) (session : ℕ) (guard : Option ℕ) (c : Command) (w : World P) → HasTowerOf w (carried_out memory session guard c w).world
+  after_act : (memory : Bool) (session : ℕ) (guard : Option ℕ) (c : Command) (w : World P) → HasTowerAndLimitsOf w (carried_out memory session guard c w).world
   after_act false session guard c w = after_answer (first_refusal (refusals session guard c w)) session c w
   after_act true session guard c w = after_refused_memory (is_full w) (command_result session guard c w) w (after_answer (first_refusal (refusals session guard c w)) session c w)
 
-  after_request : (memory : Bool) (session : ℕ) (r : Request) (w : World P) → HasTowerOf w (performed memory session r w).world
+  after_request : (memory : Bool) (session : ℕ) (r : Request) (w : World P) → HasTowerAndLimitsOf w (performed memory session r w).world
   after_request memory session (Act guard c) w = after_act memory session guard c w
   after_request memory session (Look query) w = unchanged w
   after_request memory session (Fill branch) w = unchanged w
 
-  after_line : (memory : Bool) (n : ℕ) (l : Line) (w : World P) → HasTowerOf w (answer_to memory n l w).world
+  after_line : (memory : Bool) (n : ℕ) (l : Line) (w : World P) → HasTowerAndLimitsOf w (answer_to memory n l w).world
   after_line memory n line.Blank w = unchanged w
   after_line memory n line.Bad w = unchanged w
   after_line memory n (line.Call c) w = after_request memory c.session c.request w
 
-  after_each_line : (marks : Marks) (lines : List (List ℕ)) (p : ScriptProgress (World P)) → HasTowerOf p.world (fold (next_line answer_line marks) p lines).world
+  after_each_line : (marks : Marks) (lines : List (List ℕ)) (p : ScriptProgress (World P)) → HasTowerAndLimitsOf p.world (fold (next_line answer_line marks) p lines).world
   after_each_line marks [] p = unchanged p.world
   after_each_line marks (text ∷ lines) p =
       let q = next_line answer_line marks p text in
       unchanged_then p.world q.world _ (after_line (marks (p.lines + 1)) (p.lines + 1) (read_line text) p.world) (after_each_line marks lines q)
 
   -- the world after a script's lines has the tower and the limits of the world before them
-  pub tower_unchanged : (w : World P) (lines : List (List ℕ)) (marks : Marks) → HasTowerOf w (after_lines answer_line w lines marks).world
+  pub tower_unchanged : (w : World P) (lines : List (List ℕ)) (marks : Marks) → HasTowerAndLimitsOf w (after_lines answer_line w lines marks).world
   tower_unchanged w lines marks = after_each_line marks lines (beginning w)

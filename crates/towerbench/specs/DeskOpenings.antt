@@ -1,7 +1,6 @@
--- What a script's desk is opened with, and how a run of the program at that desk ends.
-use Rattle.std.specs.Prelude.{◌≡◌, ◌<◌, ◌≤◌, ℕ, Bool, true, false, List, Result}
-use Rattle.std.specs.declared.alloc.Global.{Global}
-use Rattle.std.specs.declared.vec.Vec.{Vec}
+-- What a script's desk is opened with: a register that builds a tower, its initial value, the
+-- limits and the branches.
+use Rattle.std.specs.Prelude.{◌≡◌, ◌<◌, ◌≤◌, ℕ, true, List}
 use Rattle.frames.specs.declared.types.Step.{Step}
 use Rattle.frames.specs.Behaviour.{Behaviour}
 use Rattle.frames.specs.Configuration.{fits_step}
@@ -9,17 +8,11 @@ use Rattle.schedule_trie.specs.declared.limb.Limb.{Limb}
 use Rattle.schedule_trie.specs.declared.limits.Limits.{Limits}
 use Rattle.branch_terms.specs.declared.limits.TheConstants.{MOST_CELLS_MADE}
 use Rattle.sessions.specs.World.{World, opening_of_limbs}
-use Rattle.conversation.specs.Moments.{Streams}
 use Rattle.tower_file.specs.declared.tower.TowerSpec.{TowerSpec}
-use Rattle.tower_file.specs.Parsed.{as_bench}
 use Rattle.tower_file.specs.Towers.{fits, is_lawful_tower}
 use Rattle.command_line.specs.Ranges.{AreOptionsInRange, limits_of}
-use Rattle.towerbench.specs.declared.fault.Fault.{Fault}
 use Rattle.towerbench.specs.declared.opening.Opening.{Opening}
-use Rattle.towerbench.specs.declared.opening.Setup.{Setup}
-use Rattle.towerbench.specs.declared.opening.Reporting.{Reporting}
-use Rattle.towerbench.specs.declared.opening.Reporting.TheVariants.{Nothing, Branches}
-use Rattle.towerbench.specs.Opening.{course_from, course_of, EndsOver}
+use Rattle.towerbench.specs.Courses.{course_from, course_of}
 
 -- This register, from this initial value, does what tower t does: the same steps fit both, and
 -- scripts get the same answers and leave the same branches on both.
@@ -45,13 +38,3 @@ pub record IsOnTower {P : Type 0} (t : TowerSpec) (w : World P) : Type 0 where
 -- the world that the first line of the script finds: the one that this opening describes
 abbrev pub opening_world : {R P : Type 0} → (R → Behaviour P) → Opening R → World P
 opening_world is o = opening_of_limbs (is o.register) o.value (limits_of o.setup.options) o.setup.bench.limbs
-
--- whether the branches that a run of the program left are to be reported
-abbrev pub reports_branches : Reporting → Bool
-reports_branches Nothing = false
-reports_branches Branches = true
-
--- A run of the program with this setup, and with this choice of what is returned about the branches
--- that it left, ended with this result.
-abbrev pub EndsFrom : Setup → Reporting → Streams → Streams → Result (Vec ℕ Global) Fault → Type 0
-EndsFrom setup reporting before after result = EndsOver (reports_branches reporting) (limits_of setup.options) (as_bench setup.bench) before after result

@@ -6,7 +6,7 @@ use Rattle.clap.specs.Words.{Text}
 use Rattle.schedule_trie.specs.declared.limits.Limits.{Limits}
 use Rattle.command_line.specs.declared.options.Options.{Options}
 use Rattle.command_line.specs.Ranges.{limits_of}
-use Rattle.conversation.specs.Moments.{Streams}
+use Rattle.conversation.specs.Streams.{Streams}
 use Rattle.command_line.specs.CommandLine.{Says, AsksHelp, IsWrong}
 use Rattle.towerbench.specs.declared.fault.Fault.{Fault}
 use Rattle.towerbench.specs.declared.fault.Fault.TheVariants as fault
@@ -14,11 +14,12 @@ use Rattle.towerbench.specs.declared.fault.ProgramFault.{ProgramFault}
 use Rattle.towerbench.specs.declared.fault.ProgramFault.TheVariants.{Source, Run, Help, Memory}
 use Rattle.towerbench.specs.declared.ending.Ending.{Ending}
 use Rattle.towerbench.specs.declared.ending.Ending.TheVariants.{Done, Refused, Faulted}
-use Rattle.towerbench.specs.Opening.{IsUnopened, IsUntouched, Ran, RanInto}
+use Rattle.towerbench.specs.BenchSources.{IsUnopened}
+use Rattle.towerbench.specs.RunEndings.{IsUntouched, Ran, RanInto}
 
 -- the bytes of a file are given exactly if the words name a file
-abbrev pub IsRead : Bool → Option (List ℕ) → Type 0
-IsRead named bytes = is_some bytes ≡ named
+abbrev pub IsReadIfNamed : Bool → Option (List ℕ) → Type 0
+IsReadIfNamed named bytes = is_some bytes ≡ named
 
 -- how the program ends, given the result of its run
 abbrev pub ending_of : Result ⊤ Fault → Ending
@@ -36,7 +37,7 @@ FailsBy saves bytes limits before after e =
 -- its bytes have a fault, or, without a file, there is no memory for the branches.
 abbrev pub IsFaultBeforeBench : Bool → ProgramFault → Type 0
 IsFaultBeforeBench named (Source e) = named ≡ true
-IsFaultBeforeBench named (Run e) = (bytes : Option (List ℕ)) × IsRead named bytes × IsUnopened bytes e
+IsFaultBeforeBench named (Run e) = (bytes : Option (List ℕ)) × IsReadIfNamed named bytes × IsUnopened bytes e
 IsFaultBeforeBench named Help = ⊥
 IsFaultBeforeBench named Memory = ⊥
 
@@ -44,10 +45,10 @@ IsFaultBeforeBench named Memory = ⊥
 -- the file can't be read, and then nothing was read from the script or written; or the run or the
 -- save has a fault, as `FailsBy` says.
 abbrev pub WorksOut : Bool → Limits → Bool → Streams → Streams → Ending → Type 0
-WorksOut named limits saves before after Done = (bytes : Option (List ℕ)) × IsRead named bytes × Ran bytes limits before after
+WorksOut named limits saves before after Done = (bytes : Option (List ℕ)) × IsReadIfNamed named bytes × Ran bytes limits before after
 WorksOut named limits saves before after (Refused text) = ⊥
 WorksOut named limits saves before after (Faulted (Source e)) = (named ≡ true) × IsUntouched before after
-WorksOut named limits saves before after (Faulted (Run e)) = (bytes : Option (List ℕ)) × IsRead named bytes × FailsBy saves bytes limits before after e
+WorksOut named limits saves before after (Faulted (Run e)) = (bytes : Option (List ℕ)) × IsReadIfNamed named bytes × FailsBy saves bytes limits before after e
 WorksOut named limits saves before after (Faulted Help) = ⊥
 WorksOut named limits saves before after (Faulted Memory) = ⊥
 

@@ -4,7 +4,7 @@ use Rattle.schedule_trie.specs.Refusals.{refusal_display}
 use Rattle.tower_file.specs.Faults.{fault_display}
 use Rattle.conversation.specs.declared.fault.StreamFault.TheVariants as stream
 use Rattle.conversation.specs.Faults.{stream_fault_display}
-use Rattle.conversation.specs.Sources.{source_fault_display}
+use Rattle.conversation.specs.SourceFaults.{source_fault_display}
 use Rattle.towerbench.specs.declared.fault.Fault.{Fault}
 use Rattle.towerbench.specs.declared.fault.Fault.TheVariants as fault
 use Rattle.towerbench.specs.declared.fault.ProgramFault.{ProgramFault}

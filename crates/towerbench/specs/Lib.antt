@@ -1,6 +1,8 @@
 pub mod Faults
-pub mod Streams
-pub mod Opening
+pub mod StreamFaults
+pub mod BenchSources
+pub mod Courses
+pub mod RunEndings
 pub mod Endings
 pub mod Seats
 pub mod DeskOpenings

@@ -11,7 +11,7 @@ ghost use Rattle.pages.specs.Pages.{page_text};
 ghost use Rattle.towerbench.specs.Seats.{AddsAnswer, IsAlone, world_at};
 
 use crate::seat::Seat;
-use conversation::answering::Answers;
+use conversation::answers::Answers;
 use frames::register::Register;
 use schedule_trie::name::Name;
 use schedule_trie::refusal::Refusal;

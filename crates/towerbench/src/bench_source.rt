@@ -6,8 +6,8 @@ ghost use Rattle.std.specs.Option.{option_map};
 ghost use Rattle.std.specs.List.{list_all};
 ghost use Rattle.tower_file.specs.Parsed.{as_bench};
 ghost use Rattle.tower_file.specs.Towers as towers;
-ghost use Rattle.towerbench.specs.Opening.{opened_bench, IsFileFault, IsUnopened};
-ghost use Rattle.towerbench.specs.Opening as spec;
+ghost use Rattle.towerbench.specs.BenchSources.{opened_bench, IsFileFault, IsUnopened};
+ghost use Rattle.towerbench.specs.BenchSources as spec;
 
 use crate::fault::Fault;
 use schedule_trie::limb::{Limb, Steps};
@@ -23,7 +23,7 @@ pub const MOST_FILE_BYTES: usize = 1 << 32;
 /// header, the bytes are read as a bench file; otherwise as a tower file, whose steps become those
 /// of a branch `main`. If `file` is `None`, returns a safe bit at 0 and a branch `main` without
 /// steps. An error if the bytes have a fault, or memory runs out.
-pub(crate) fn open_file(alloc: Global, file: Option<&[u8]>) -> Result<BenchFile, Fault>
+pub(crate) fn opened_bench(alloc: Global, file: Option<&[u8]>) -> Result<BenchFile, Fault>
     ensures ok { IfOk result (λ bench.
         opened_bench (option_map (λ bytes. bytes.now) file.entry) ≡ Ok (as_bench bench)) }
     ensures err { IfErr result (IsUnopened (option_map (λ bytes. bytes.now) file.entry)) }

@@ -2,7 +2,7 @@
 
 ghost use Rattle.std.specs.Prelude.{◌≡◌, Some};
 ghost use Rattle.towerbench.specs.Faults as spec;
-ghost use Rattle.towerbench.specs.Streams.{of_stream};
+ghost use Rattle.towerbench.specs.StreamFaults.{fault_of_stream};
 
 use conversation::fault::StreamFault;
 use conversation::source::SourceFault;
@@ -35,8 +35,8 @@ pub enum Fault {
 }
 
 /// The fault of a run whose script's streams ended with this fault.
-pub(crate) fn of_stream(fault: StreamFault) -> Fault
-    ensures { result ≡ of_stream fault }
+pub(crate) fn fault_of_stream(fault: StreamFault) -> Fault
+    ensures { result ≡ fault_of_stream fault }
 {
     match fault {
         StreamFault::Read => Fault::Read,

@@ -5,13 +5,14 @@ ghost use Rattle.std.specs.IoError.{error_kind};
 ghost use Rattle.std.specs.Option.{is_some};
 ghost use Rattle.std.specs.String.{string_bytes};
 ghost use Rattle.tower_file.specs.Parsed.{as_bench};
-ghost use Rattle.conversation.specs.Moments.{streams};
+ghost use Rattle.conversation.specs.Streams.{streams};
 ghost use Rattle.command_line.specs.Ranges.{AreOptionsInRange, limits_of};
 ghost use Rattle.towerbench.specs.declared.ending.Ending.{Ending};
-ghost use Rattle.towerbench.specs.Opening.{IsUntouched, opened_bench};
-ghost use Rattle.towerbench.specs.Endings.{IsFaultBeforeBench, IsPrinted, IsRead, ProgramEndsBy, WorksOut, ending_of, exit_status};
+ghost use Rattle.towerbench.specs.RunEndings.{IsUntouched};
+ghost use Rattle.towerbench.specs.BenchSources.{opened_bench};
+ghost use Rattle.towerbench.specs.Endings.{IsFaultBeforeBench, IsPrinted, IsReadIfNamed, ProgramEndsBy, WorksOut, ending_of, exit_status};
 
-use crate::bench_source::{MOST_FILE_BYTES, open_file};
+use crate::bench_source::{MOST_FILE_BYTES, opened_bench};
 use crate::ending::Ending;
 use crate::fault::{Fault, ProgramFault};
 use crate::opening::{Fate, Reporting, Setup};
@@ -19,7 +20,7 @@ use crate::running::run_setup;
 use crate::saved_file::save_at;
 use command_line::{Invocation, Options, parse_words};
 use conversation::source::read_file;
-use conversation::streams::write_whole;
+use conversation::writing::write_whole;
 use std::io;
 use std::io::{ErrorKind, Read, Write};
 use std::rt::Files;
@@ -153,11 +154,11 @@ fn bench_at<F: Files + AllocGlobal>(
     file: Option<&str>,
 ) -> Result<BenchFile, ProgramFault>
     ensures ok { IfOk result (λ bench. (bytes : Option (List ℕ))
-        × IsRead (is_some file.entry) bytes × (opened_bench bytes ≡ Ok (as_bench bench))) }
+        × IsReadIfNamed (is_some file.entry) bytes × (opened_bench bytes ≡ Ok (as_bench bench))) }
     ensures err { IfErr result (IsFaultBeforeBench (is_some file.entry)) }
 {
     let Some(path) = file else {
-        return match open_file(files.alloc(), None) {
+        return match opened_bench(files.alloc(), None) {
             Ok(bench) => Ok(bench),
             Err(fault) => Err(ProgramFault::Run(fault)),
         };
@@ -166,7 +167,7 @@ fn bench_at<F: Files + AllocGlobal>(
         Ok(bytes) => bytes,
         Err(fault) => return Err(ProgramFault::Source(fault)),
     };
-    match open_file(files.alloc(), Some(&bytes)) {
+    match opened_bench(files.alloc(), Some(&bytes)) {
         Ok(bench) => Ok(bench),
         Err(fault) => Err(ProgramFault::Run(fault)),
     }

@@ -5,13 +5,13 @@ ghost use Rattle.std.specs.Option.{option_map};
 ghost use Rattle.schedule_trie.specs.Limbs.{limbs};
 ghost use Rattle.tower_file.specs.Benches.{bench_of};
 ghost use Rattle.command_line.specs.Ranges.{AreOptionsInRange, limits_of};
-ghost use Rattle.conversation.specs.Moments.{streams};
-ghost use Rattle.towerbench.specs.Opening.{IsReported, Ran, RanInto};
-ghost use Rattle.towerbench.specs.DeskOpenings.{Builds, EndsFrom, IsOnTower, reports_branches};
+ghost use Rattle.conversation.specs.Streams.{streams};
+ghost use Rattle.towerbench.specs.RunEndings.{IsReported, Ran, RanInto, EndsFrom, reports_branches};
+ghost use Rattle.towerbench.specs.DeskOpenings.{Builds, IsOnTower};
 ghost use Rattle.towerbench.specs.Seats.{IsAlone, world_at};
 
-use crate::bench_source::{open_file, tower_of};
-use crate::fault::{Fault, of_stream};
+use crate::bench_source::{opened_bench, tower_of};
+use crate::fault::{Fault, fault_of_stream};
 use crate::opening::{Fate, Opening, Reporting, Setup};
 use crate::seat::Seat;
 use crate::serving::serve_at;
@@ -54,7 +54,7 @@ pub fn run<H: Threads + Wait + Sync, R: Read, W: Write>(
         (streams (R.remaining reader.old) (W.contents writer.old))
         (streams (R.remaining reader.new) (W.contents writer.new))) }
 {
-    let bench = match open_file(alloc, file) {
+    let bench = match opened_bench(alloc, file) {
         Ok(bench) => bench,
         Err(fault) => return Err(fault),
     };
@@ -86,6 +86,7 @@ pub(crate) fn run_setup<H: Threads + Wait + Sync, R: Read, W: Write>(
         (streams (R.remaining reader.old) (W.contents writer.old))
         (streams (R.remaining reader.new) (W.contents writer.new)) result }
 {
+    // A macro, since the registers of the towers have different types.
     macro_rules! begin_with {
         ($register:expr, $value:expr) => {{
             let opening = Opening {
@@ -142,11 +143,11 @@ where
     };
     match serve_at(alloc, &mut seat, reader, &mut Taken::nothing(), writer) {
         Ok(()) => {}
-        Err(fault) => return Err(of_stream(fault)),
+        Err(fault) => return Err(fault_of_stream(fault)),
     }
     match reported_bytes(alloc, &mut seat, tower, reporting) {
         Ok(reported) => {
-            leave(seat, fate);
+            drop_or_forget(seat, fate);
             Ok(reported)
         }
         Err(AllocError) => Err(Fault::Memory),
@@ -154,7 +155,7 @@ where
 }
 
 /// Drops or forgets a seat after a script that ended well.
-fn leave<B: Register, H>(seat: Seat<'_, B, H>, fate: Fate) {
+fn drop_or_forget<B: Register, H>(seat: Seat<'_, B, H>, fate: Fate) {
     match fate {
         Fate::Dropped => {}
         Fate::Forgotten => forget(seat),

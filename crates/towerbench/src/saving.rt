@@ -4,16 +4,16 @@ ghost use Rattle.std.specs.Prelude.{◌≡◌, OnOk, OnErr, IfErr};
 ghost use Rattle.std.specs.Option.{option_map};
 ghost use Rattle.std.specs.Io.KnownBytes.{Appends};
 ghost use Rattle.conversation.specs.Conversations.{WroteFront};
-ghost use Rattle.conversation.specs.Moments.{streams};
+ghost use Rattle.conversation.specs.Streams.{streams};
 ghost use Rattle.command_line.specs.Ranges.{AreOptionsInRange, limits_of};
-ghost use Rattle.towerbench.specs.Opening.{RanSaving, SavesInto};
+ghost use Rattle.towerbench.specs.RunEndings.{RanSaving, RanSavingInto};
 
-use crate::bench_source::open_file;
+use crate::bench_source::opened_bench;
 use crate::fault::Fault;
 use crate::opening::{Fate, Reporting, Setup};
 use crate::running::run_setup;
 use command_line::Options;
-use conversation::streams::write_whole;
+use conversation::writing::write_whole;
 use std::alloc::Global;
 use std::io::{Read, Write};
 use std::sync::Wait;
@@ -43,13 +43,13 @@ pub fn run_saving<H: Threads + Wait + Sync, R: Read, W: Write, S: Write>(
         (streams (R.remaining reader.old) (W.contents writer.old))
         (streams (R.remaining reader.new) (W.contents writer.new))
         (S.contents saver.old) (S.contents saver.new)) }
-    ensures fault { IfErr result (SavesInto
+    ensures fault { IfErr result (RanSavingInto
         (option_map (λ bytes. bytes.now) file.entry) (limits_of options)
         (streams (R.remaining reader.old) (W.contents writer.old))
         (streams (R.remaining reader.new) (W.contents writer.new))
         (S.contents saver.old) (S.contents saver.new)) }
 {
-    let bench = match open_file(alloc, file) {
+    let bench = match opened_bench(alloc, file) {
         Ok(bench) => bench,
         Err(fault) => return Err(fault),
     };

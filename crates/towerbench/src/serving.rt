@@ -3,17 +3,17 @@
 ghost use Rattle.std.specs.Prelude.{◌≡◌, ◌≤◌, OnOk, IfErr};
 ghost use Rattle.conversation.specs.Amounts.{MayEndBy, nothing};
 ghost use Rattle.conversation.specs.Conversations.{IsAnswered, Leaves, EndsWithFault};
-ghost use Rattle.conversation.specs.Moments.{streams};
+ghost use Rattle.conversation.specs.Streams.{streams};
 ghost use Rattle.conversation.specs.Scripts.{answers_to, IsLineAnswer};
 ghost use Rattle.script.specs.Answers.{answer_line};
 ghost use Rattle.turn.specs.Shares.{HasAll};
 ghost use Rattle.turn.specs.Chairs.{view};
 ghost use Rattle.desk.specs.Chairs.{IsChairOf};
-ghost use Rattle.towerbench.specs.Streams.{EndsWithStreamFault, IsOfStreams};
+ghost use Rattle.towerbench.specs.StreamFaults.{EndsWithStreamFault, IsOfStreams};
 ghost use Rattle.towerbench.specs.Seats.{IsAlone, seated, world_at};
 
 use crate::answer::{LineAnswer, answer};
-use crate::fault::{Fault, of_stream};
+use crate::fault::{Fault, fault_of_stream};
 use crate::seat::Seat;
 use conversation::converse::converse;
 use conversation::fault::StreamFault;
@@ -65,7 +65,7 @@ where
     let mut seat = Seat::new(rt, desk, chair, thieves);
     match serve_at(alloc, &mut seat, reader, &mut Taken::nothing(), writer) {
         Ok(()) => Ok(()),
-        Err(fault) => Err(of_stream(fault)),
+        Err(fault) => Err(fault_of_stream(fault)),
     }
 }
 

@@ -2,7 +2,7 @@
 use Rattle.std.specs.Prelude.{ℕ, List}
 use Rattle.conversation.specs.declared.fault.StreamFault.TheVariants as stream
 use Rattle.conversation.specs.Faults.{stream_fault_display}
-use Rattle.conversation.specs.Sources.{source_fault_display}
+use Rattle.conversation.specs.SourceFaults.{source_fault_display}
 use Rattle.answer_lines.specs.Faults.{answers_fault_display}
 use Rattle.towerbench_answers.specs.declared.ending.AnswersProgramFault.{AnswersProgramFault}
 use Rattle.towerbench_answers.specs.declared.ending.AnswersProgramFault.TheVariants as program

@@ -3,8 +3,8 @@ use Rattle.std.specs.Prelude.{◌≡◌, ℕ, ◌||◌, ◌&&◌, ◌==◌, not,
 use Rattle.std.specs.Str.{bytes_eq}
 use Rattle.towerbench_answers.specs.declared.ending.AnswersEnding.{AnswersEnding}
 use Rattle.towerbench_answers.specs.declared.ending.AnswersEnding.TheVariants.{Done, Refused, Faulted}
-use Rattle.towerbench_answers.specs.declared.asked.Asked.{Asked}
-use Rattle.towerbench_answers.specs.declared.asked.Asked.TheVariants.{File, Help, Nothing}
+use Rattle.towerbench_answers.specs.declared.invocation.AnswersInvocation.{AnswersInvocation}
+use Rattle.towerbench_answers.specs.declared.invocation.AnswersInvocation.TheVariants.{File, Help, Nothing}
 
 -- whether a word asks for the help
 abbrev pub is_help : List ℕ → Bool
@@ -17,17 +17,17 @@ is_option (b ∷ bs) = b == 45
 
 -- A single word asks for this: `--help` and `-h` ask for the help; any other word that begins with
 -- `-` asks for nothing that the program does; any other word is the path of a question file.
-abbrev pub IsAskedByWord : List ℕ → Asked → Type 0
-IsAskedByWord word (File path) = (path.now ≡ word) × (is_option word ≡ false)
-IsAskedByWord word Help = is_help word ≡ true
-IsAskedByWord word Nothing = (is_option word && not (is_help word)) ≡ true
+abbrev pub IsAnswersInvocationOfWord : List ℕ → AnswersInvocation → Type 0
+IsAnswersInvocationOfWord word (File path) = (path.now ≡ word) × (is_option word ≡ false)
+IsAnswersInvocationOfWord word Help = is_help word ≡ true
+IsAnswersInvocationOfWord word Nothing = (is_option word && not (is_help word)) ≡ true
 
--- The words ask for this: no words, for the help; a single word, for what `IsAskedByWord` says;
--- several words, for nothing that the program does.
-abbrev pub IsAsked : List (List ℕ) → Asked → Type 0
-IsAsked [] asked = asked ≡ Help
-IsAsked (word ∷ []) asked = IsAskedByWord word asked
-IsAsked (word ∷ other ∷ others) asked = asked ≡ Nothing
+-- The words ask for this: no words, for the help; a single word, for what
+-- `IsAnswersInvocationOfWord` says; several words, for nothing that the program does.
+abbrev pub IsAnswersInvocation : List (List ℕ) → AnswersInvocation → Type 0
+IsAnswersInvocation [] invocation = invocation ≡ Help
+IsAnswersInvocation (word ∷ []) invocation = IsAnswersInvocationOfWord word invocation
+IsAnswersInvocation (word ∷ other ∷ others) invocation = invocation ≡ Nothing
 
 -- whether the words are refused, since they ask for nothing that the program does
 abbrev pub are_refused : List (List ℕ) → Bool
@@ -36,7 +36,7 @@ are_refused (word ∷ []) = is_option word && not (is_help word)
 are_refused (word ∷ other ∷ others) = true
 
 -- whether nothing is asked for
-abbrev pub is_nothing : Asked → Bool
+abbrev pub is_nothing : AnswersInvocation → Bool
 is_nothing Nothing = true
 is_nothing Help = false
 is_nothing (File path) = false

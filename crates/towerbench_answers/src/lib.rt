@@ -3,10 +3,10 @@
 //! `answers_tool`.
 #![tactic(auto)]
 
-mod asked;
 mod ending;
+mod invocation;
 mod program;
 
-pub use asked::{Asked, read_words};
 pub use ending::{AnswersEnding, AnswersProgramFault};
+pub use invocation::{AnswersInvocation, read_words};
 pub use program::answers_tool;

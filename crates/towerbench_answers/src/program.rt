@@ -5,11 +5,11 @@ ghost use Rattle.std.specs.IoError.{error_kind};
 ghost use Rattle.std.specs.String.{string_bytes};
 ghost use Rattle.towerbench_answers.specs.Words.{are_refused, answers_status, ends_refused};
 
-use crate::asked::{Asked, read_words};
 use crate::ending::{AnswersEnding, AnswersProgramFault};
+use crate::invocation::{AnswersInvocation, read_words};
 use answer_lines::{AnswersFault, answer};
 use conversation::source::read_file;
-use conversation::streams::write_whole;
+use conversation::writing::write_whole;
 use std::alloc::Global;
 use std::io;
 use std::io::{ErrorKind, Write};
@@ -95,14 +95,14 @@ fn follow<F: Files + AllocGlobal, W: Write>(
         → W.contents writer.new ≡ W.contents writer.old }
 {
     match read_words(words) {
-        Asked::File(path) => ended(work(files, path, writer)),
-        Asked::Help => ended(write(writer, HELP.as_bytes())),
-        Asked::Nothing => AnswersEnding::Refused,
+        AnswersInvocation::File(path) => ending_of(write_answers(files, path, writer)),
+        AnswersInvocation::Help => ending_of(write(writer, HELP.as_bytes())),
+        AnswersInvocation::Nothing => AnswersEnding::Refused,
     }
 }
 
 /// How the program ends, given the result of doing what its words ask for.
-fn ended(done: Result<(), AnswersProgramFault>) -> AnswersEnding
+fn ending_of(done: Result<(), AnswersProgramFault>) -> AnswersEnding
     ensures { ends_refused result ≡ false }
 {
     match done {
@@ -112,7 +112,7 @@ fn ended(done: Result<(), AnswersProgramFault>) -> AnswersEnding
 }
 
 /// Writes the answers to the question in the file at a path.
-fn work<F: Files + AllocGlobal, W: Write>(
+fn write_answers<F: Files + AllocGlobal, W: Write>(
     files: &F,
     path: &str,
     writer: &mut W,

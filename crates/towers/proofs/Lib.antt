@@ -1,2 +1,0 @@
-mod OneWriters
-pub mod Matrices

@@ -1,3 +1,2 @@
-pub mod UnaryLayers
 pub mod Towers
-pub mod Built
+pub mod laws

@@ -1,14 +1,14 @@
 //! The laws of five towers (copies, regular bit, unary number, stamped register and matrix), on
-//! every schedule: what their reads give, and that they report their actions. A read is stray if it
-//! gives neither the value written last before it (the initial value, if none was) nor the value of
-//! a write that overlaps it.
+//! every schedule: what their reads give, and that they report their actions. Those of the sixth,
+//! the safe bit, are in `frames::laws`. A read is stray if it gives neither the value written last
+//! before it (the initial value, if none was) nor the value of a write that overlaps it.
 
 ghost use Rattle.frames.specs.correctness.Ranks.{IsAtomicForMany};
 ghost use Rattle.frames.specs.correctness.Regularity.{NeverStray};
 ghost use Rattle.frames.specs.correctness.Regularity.{IsAtomic, IsRegular, IsSafe};
 ghost use Rattle.frames.specs.correctness.ReportedActions.{ReportsActions};
 ghost use Rattle.matrix.specs.Rows.{RefusesNoRow};
-ghost use Rattle.unary_number.specs.Scans.{AlwaysFindsOne};
+ghost use Rattle.unary_number.specs.LastBit.{AlwaysFindsOne};
 
 use crate::{CopiesTower, MatrixTower, RegularTower, StampedTower, UnaryTower};
 use frames::laws::{never_stray, safe};

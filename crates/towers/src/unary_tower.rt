@@ -31,7 +31,7 @@ impl Register for UnaryTower {
     ghost use Rattle.frames.specs.laws.Safe.{safe_frames_give_point, point_decides};
     ghost use Rattle.layers.specs.Flat.{layered_point};
     ghost use Rattle.layers.specs.laws.Flat.{layered_frames_give_point};
-    ghost use Rattle.towers.specs.UnaryLayers as layers;
+    ghost use Rattle.towers.specs.laws.UnaryLayers as layers;
     ghost use Rattle.layers.specs.laws.Layered.{layer_lawful};
     ghost use Rattle.layers.specs.laws.Equality.{nested_decides};
     ghost use Rattle.reader_copies.specs.Program.{copies_table};

@@ -8,31 +8,36 @@ use lib.ListN.{get_elem?}
 use Rattle.atomic_table.specs.Table.{State, Me, opening, Final, Seen}
 use Rattle.turn.specs.declared.view.View.{View}
 use Rattle.turn.specs.Shares.{has_share, HasAll, shares_without, together, count, chair_number, next_least}
-use Rattle.turn.specs.laws.Shares.{below_every, has_without, given_inside, given_some, kept_some, count_some, number_held, together_some}
+use Rattle.turn.specs.laws.ShareLaws.{below_every, has_without, given_inside, given_some, kept_some, count_some, number_held, together_some}
 use Rattle.turn.specs.Histories.{StartsWith, first_view, with_news, longer, joined, IsJoined, HoldsSome, under, OwnsItsCalls, kept, handed}
 use Rattle.turn.specs.Rule.{TurnInvariant, NewsReports}
 use Rattle.turn.proofs.Prefixes.{nothing_new, under_kept}
 use Rattle.turn.proofs.RuleSteps.{starts, none_under, longer_cases}
 
 module _ {T E : Type 0} (by : E → ℕ) (entries : T → List E) where
+  -- a chair's view, and what a chair has at the table
   abbrev V : Type 0
   V = View E
 
   abbrev M : Type 0
   M = Me (Option T) V
 
+  -- a turn's table is as `TurnInvariant` says when it is made
   pub invariant_at_start : (value about : T) (xs : List (Option T)) (n : ℕ) → All (λ e. 16 ≤ by e) (entries value) → n ≡ length (entries value) → xs ≡ Some value ∷ [] → about ≡ value
       → TurnInvariant by entries (opening (0 ∷ n ∷ []) xs (first_view (entries about)))
   invariant_at_start value about xs n outside long items same = subst (λ (z : List (Option T) × T). TurnInvariant by entries (opening (0 ∷ n ∷ []) z.0 (first_view (entries z.1))))
       (λ i. (sym items i, sym same i)) (starts by entries value outside n long)
 
+  -- the first chair owns its calls: it made none, and no chair made an entry
   pub owns_first : (value about : T) → All (λ e. 16 ≤ by e) (entries value) → about ≡ value → OwnsItsCalls by (first_view (entries about))
   owns_first value about outside same share held = ap (λ (x : T). under by share (entries x)) same ∙ none_under by entries share (entries value) (below_every share held) outside
 
+  -- a chair that gives shares away owns the calls that it keeps
   pub owns_kept : (given : List Bool) (v : V) → OwnsItsCalls by v → OwnsItsCalls by (kept by given v)
   owns_kept given v owns share held = let h = has_without v.shares given share held in
       owns share h.0 ∙ sym (under_kept by (λ i. not (has_share given i)) share v.calls (ap not h.1))
 
+  -- a new chair owns the calls that it is given
   pub owns_handed : (given : List Bool) (v : V) → ((share : ℕ) → has_share given share ≡ true → has_share v.shares share ≡ true) → OwnsItsCalls by v → OwnsItsCalls by (handed by given v)
   owns_handed given v inside owns share held = owns share (inside share held) ∙ sym (under_kept by (has_share given) share v.calls held)
 
@@ -40,6 +45,7 @@ module _ {T E : Type 0} (by : E → ℕ) (entries : T → List E) where
   abbrev pub IsIdleChair : M → List Bool → Type 0
   IsIdleChair m marks = (m.0.shares ≡ marks) × ((m.1 ≡ []) × (m.0.holds ≡ false)) × (0 < count marks) × OwnsItsCalls by m.0
 
+  -- the shares that a chair gives away are its own
   pub inside_marks : (m : M) (marks given : List Bool) (n : ℕ) → m.0.shares ≡ marks → given ≡ next_least n marks → (share : ℕ) → has_share given share ≡ true → has_share m.0.shares share ≡ true
   inside_marks m marks given n marked is share held = ap (λ (l : List Bool). has_share l share) marked ∙ given_inside n marks share (ap (λ (l : List Bool). has_share l share) (sym is) ∙ held)
 

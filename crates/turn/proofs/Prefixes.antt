@@ -59,6 +59,7 @@ module _ {E : Type 0} (by : E → ℕ) where
       empty [] e = refl
       empty (x ∷ xs) e = absurd (omega arith)
 
+  -- an entry by another chair isn't under the share, whether it is kept or not
   skip_other : (b : Bool) (share : ℕ) (x : E) (xs : List E) → by x ≢ share → under by share (cond b (x ∷ xs) xs) ≡ under by share xs
   skip_other true share x xs other = ap (λ t. cond t (x ∷ under by share xs) (under by share xs)) (ne_eqb (by x) share other)
   skip_other false share x xs other = refl

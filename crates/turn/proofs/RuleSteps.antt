@@ -13,7 +13,7 @@ use Rattle.atomic_table.specs.Table.{State, Me, step, Act, keeps, takes, gives, 
 use Rattle.atomic_table.proofs.Lists.{at_set, set_else, set_again, at_longer, exchanged}
 use Rattle.turn.specs.declared.view.View.{View}
 use Rattle.turn.specs.Shares.{has_share}
-use Rattle.turn.specs.laws.Shares.{below_every, none_held, has_without, not_without, has_together, not_together}
+use Rattle.turn.specs.laws.ShareLaws.{below_every, none_held, has_without, not_without, has_together, not_together}
 use Rattle.turn.specs.Entries.{AtMostOne}
 use Rattle.turn.specs.Histories.{StartsWith, first_view, spent_view, grabbed, published, released, with_news, longer, joined, HoldsSome, under, OwnsItsCalls, kept, handed}
 use Rattle.turn.specs.Rule.{ByChairs, Knows, TurnInvariant, grab_reports, publish_reports, release_reports, news_reports}
@@ -27,6 +27,7 @@ module _ {A : Type 0} where
   get_after_set (x ∷ xs) (suc i) a b e = get_after_set xs i a b e
 
 module _ {T E : Type 0} (by : E → ℕ) (entries : T → List E) where
+  -- a chair's view, the table's state, and what a chair has at the table
   abbrev V : Type 0
   V = View E
 
@@ -39,6 +40,7 @@ module _ {T E : Type 0} (by : E → ℕ) (entries : T → List E) where
   abbrev Rule : St → Type 0
   Rule = TurnInvariant by entries
 
+  -- K holds of each chair's view after the view of one, `me`, is replaced by w, if it holds of w
   views_stay : (K : ℕ → V → Type 0) (vs : List V) (me : ℕ) (w : V) → K me w → ((j : ℕ) (d : V) → j ≢ me → get_elem? vs j ≡ some d → K j d)
       → (j : ℕ) (d : V) → get_elem? (set vs me w) j ≡ some d → K j d
   views_stay K vs me w mine others j d e = ⊎_elim (λ (t : (j ≡ me) × (w ≡ d)). subst (λ (x : ℕ × V). K x.0 x.1) (λ i. (sym t.0 i, t.1 i)) mine)
@@ -72,6 +74,7 @@ module _ {T E : Type 0} (by : E → ℕ) (entries : T → List E) where
       → Knows by list f h owner' chair v
   new_owners list f h owner owner' chair v k owns = same_list list f f h h owner owner' chair v v.reported v.holds k owns k.reported k.holding
 
+  -- if what a view says of the list is true, its chair owns its calls
   owns_calls : (list : List E) (f h : ℕ) (owner : ℕ → ℕ) (chair : ℕ) (v : V) → Knows by list f h owner chair v → OwnsItsCalls by v
   owns_calls list f h owner chair v k share held = k.seen_under share held ∙ sym (k.calls share held)
 
@@ -175,13 +178,16 @@ module _ {T E : Type 0} (by : E → ℕ) (entries : T → List E) where
       ))
       (λ taken. (me.0, keeps, tt, unmoved s 0 id me.0 r at, ((λ free. absurd (taken free)), λ _. refl)))
 
+  -- an entry that is added under a chair's number is by a chair
   added_by_chairs : (n : ℕ) (added : List E) → n < 16 → AtMostOne by n added → ByChairs by added
   added_by_chairs n added inside one = ⊎_elim (λ (e : added ≡ []). subst (ByChairs by) (sym e) (All-nil (λ x. by x < 16)))
       (λ (t : (x : E) × (added ≡ x ∷ []) × (by x ≡ n)). subst (ByChairs by) (sym t.1) (All-cons (λ x. by x < 16) t.0 [] (let e = t.2 in omega arith) (All-nil (λ x. by x < 16)))) one
 
+  -- two lists with the same entries under a share still have these after the same are added to both
   under_more : (share : ℕ) (xs ys added : List E) → under by share xs ≡ under by share ys → under by share (xs ++ added) ≡ under by share (ys ++ added)
   under_more share xs ys added e = under_append by share xs added ∙ (ap (λ l. l ++ under by share added) e ∙ sym (under_append by share ys added))
 
+  -- no entry is added under a share other than n, the number of the chair that adds
   under_unchanged : (n share : ℕ) (list added : List E) → AtMostOne by n added → n ≢ share → under by share list ≡ under by share (list ++ added)
   under_unchanged n share list added one other = sym (append-nil (under by share list)) ∙ (ap (λ l. under by share list ++ l) (sym (added_elsewhere by n share added one other)) ∙ sym (under_append by share list added))
 
@@ -281,6 +287,7 @@ module _ {T E : Type 0} (by : E → ℕ) (entries : T → List E) where
   at_or_last (x ∷ xs) a b zero e = inl e
   at_or_last (x ∷ xs) a b (suc j) e = ⊎_elim inl (λ (t : (j ≡ length xs) × (a ≡ b)). inr (ap suc t.0, t.1)) (at_or_last xs a b j e)
 
+  -- two cases of a test
   both_cases : {P : Type 0} (b : Bool) → (b ≡ true → P) → (b ≡ false → P) → P
   both_cases true t f = t refl
   both_cases false t f = f refl

@@ -9,7 +9,7 @@ pub(crate) struct Shares {
     pub(crate) marks: [bool; 16],
 }
 
-#[tactic(auto, using(crate::specs::laws::Shares::marked_none, crate::specs::laws::Shares::marked_more, crate::specs::laws::Shares::marked_all))]
+#[tactic(auto, using(crate::specs::laws::ShareLaws::marked_none, crate::specs::laws::ShareLaws::marked_more, crate::specs::laws::ShareLaws::marked_all))]
 impl Shares {
     /// All shares.
     pub(crate) fn every() -> Shares

@@ -51,6 +51,7 @@ impl<S: Register> NewUnary<S> for Unary<S> {
             return Err(LayerError::BadSize);
         }
         let processes = below.processes();
+        // The rules' field `some` needs this; `over` checks the limits.
         if processes == 0 {
             return Err(LayerError::BadSize);
         }

@@ -1,11 +1,11 @@
 -- What the steps of a register do depends on the register's behaviour alone, not on its value.
-use Rattle.std.proofs.Common.{◌≡◌, Bool, List, [], ◌∷◌, ◌++◌, refl, sym, ap, ◌∙◌}
+use Rattle.std.proofs.Common.{◌≡◌, Bool, List, [], ◌∷◌, refl, sym, ap, ◌∙◌}
 use Rattle.std.specs.Prelude.{⊤}
 use Rattle.frames.specs.declared.types.Step.{Step}
 use Rattle.frames.specs.Behaviour.{Behaviour}
 use Rattle.frames.specs.Configuration.{Configuration, events_of, stepped, replayed, history}
 use Rattle.frames.specs.Equality.{SameConfiguration}
-use Rattle.cutoff.specs.Links.{without_register}
+use Rattle.frames.specs.Recorded.{without_register}
 use Rattle.cutoff.proofs.Fits.{without_register_same}
 use Rattle.pages.specs.declared.query.ConfigKind.{ConfigKind}
 use Rattle.pages.specs.declared.query.ConfigKind.TheVariants.{State, Process, Bits, Pending}
@@ -20,15 +20,6 @@ module _ {R P : Type 0} (b : Behaviour P) where
   pub history_alone : (c : Configuration R P) (steps : List Step) → history b c steps ≡ history b (without_register c) steps
   history_alone c [] = refl
   history_alone c (s ∷ steps) = ap (λ later. events_of b c s ∷ later) (history_alone (stepped b c s) steps)
-
-  -- to replay a list of steps after another is to replay both as one list
-  pub replayed-append : (c : Configuration R P) (first later : List Step) → replayed b c (first ++ later) ≡ replayed b (replayed b c first) later
-  replayed-append c [] later = refl
-  replayed-append c (s ∷ first) later = replayed-append (stepped b c s) first later
-
-  pub history-append : (c : Configuration R P) (first later : List Step) → history b c (first ++ later) ≡ history b c first ++ history b (replayed b c first) later
-  history-append c [] later = refl
-  history-append c (s ∷ first) later = ap (λ events. events_of b c s ∷ events) (history-append (stepped b c s) first later)
 
   pub history_same : (E : R → R → Bool) (a c : Configuration R P) (steps : List Step) → SameConfiguration E a c → history b a steps ≡ history b c steps
   history_same E a c steps same = history_alone a steps ∙ ap (λ d. history b d steps) (without_register_same E a c same) ∙ sym (history_alone c steps)

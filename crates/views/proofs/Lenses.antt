@@ -1,15 +1,14 @@
 -- The configurations in a lens always match their keys, so one that is found is like the one asked
 -- for.
-use Rattle.std.proofs.Common.{◌≡◌, ℕ, zero, suc, ◌≤◌, Bool, true, List, [], ◌∷◌, ◌++◌, take, drop, length, ◌-◌, Some, refl, sym, ap, subst, ◌∙◌, inl, inr, arith}
+use Rattle.std.proofs.Common.{◌≡◌, ℕ, ◌≤◌, Bool, true, ◌++◌, take, drop, Some, refl, sym, ap, subst, ◌∙◌, inl, inr}
 use Rattle.std.specs.Prelude.{Result, Ok, Err, OnOk, OnErr}
 use Rattle.std.specs.Bool.{Decides}
 use Rattle.std.specs.Map.{lookup}
-use Rattle.std.proofs.lemmas.List.{take-append-drop, take_all}
-use Rattle.frames.specs.declared.types.Step.{Step}
+use Rattle.std.proofs.lemmas.List.{take-append-drop, take-take}
 use Rattle.frames.specs.Behaviour.{Behaviour}
 use Rattle.frames.specs.Configuration.{Configuration, replayed}
+use Rattle.frames.specs.Recorded.{without_register}
 use Rattle.cutoff.specs.Fitting.{RunPart}
-use Rattle.cutoff.specs.Links.{without_register}
 use Rattle.cutoff.proofs.Fits.{register_kept, without_register_same}
 use Rattle.checkpoints.specs.Segment.{SegmentRun}
 use Rattle.lru.specs.LruCache.{LruCache, lru_cache, promoted, put_entries}
@@ -21,21 +20,8 @@ use Rattle.views.specs.Lenses.{MatchTheirKeys, IsLens}
 use Rattle.pages.specs.Pages.{config_page}
 use Rattle.views.specs.Spots.{IsAlike, part_end}
 use Rattle.views.specs.laws.PlaceLaws.{SamePlace, same_place, place_decides}
-use Rattle.views.proofs.BehaviourAlone.{replayed_alone, replayed-append, page_alone}
-
-pub take-take : (n m : ℕ) (steps : List Step) → n ≤ m → take n (take m steps) ≡ take n steps
-take-take zero m steps h = refl
-take-take (suc n) zero steps h = absurd (omega (arith, h))
-take-take (suc n) (suc m) [] h = refl
-take-take (suc n) (suc m) (s ∷ steps) h = ap (λ later. s ∷ later) (take-take n m steps (omega (arith, h)))
-
--- the slice `steps[n..]` has all steps after the first n
-pub tail_is : (n : ℕ) (steps : List Step) → take (length steps - n) (drop n steps) ≡ drop n steps
-tail_is zero steps = take_all (length steps - 0) steps (omega arith)
-tail_is (suc n) [] = take_all (length {A = Step} [] - suc n) [] (omega arith)
-tail_is (suc n) (s ∷ steps) =
-    let fewer : length (s ∷ steps) - suc n ≡ length steps - n = omega arith in
-    ap (λ m. take m (drop n steps)) fewer ∙ tail_is n steps
+use Rattle.views.proofs.BehaviourAlone.{replayed_alone, page_alone}
+use Rattle.views.proofs.Replays.{replayed-append}
 
 module _ {R P : Type 0} (is : R → Behaviour P) where
   abbrev behaviour_of : RunPart R P → Behaviour P
@@ -48,11 +34,11 @@ module _ {R P : Type 0} (is : R → Behaviour P) where
   pub end_behaviour : (part : RunPart R P) → is (part_end is part).register ≡ behaviour_of part
   end_behaviour part = ap is (register_kept (behaviour_of part) part.run.entry (take part.count part.run.steps))
 
-  like_symm : (c d : Configuration R P) → IsAlike is c d → IsAlike is d c
-  like_symm c d e = record { behaves_alike = sym e.behaves_alike; all_else = sym e.all_else }
+  alike_symm : (c d : Configuration R P) → IsAlike is c d → IsAlike is d c
+  alike_symm c d e = record { behaves_alike = sym e.behaves_alike; all_else = sym e.all_else }
 
-  like_trans : (c d e : Configuration R P) → IsAlike is c d → IsAlike is d e → IsAlike is c e
-  like_trans c d e f g = record { behaves_alike = f.behaves_alike ∙ g.behaves_alike; all_else = f.all_else ∙ g.all_else }
+  alike_trans : (c d e : Configuration R P) → IsAlike is c d → IsAlike is d e → IsAlike is c e
+  alike_trans c d e f g = record { behaves_alike = f.behaves_alike ∙ g.behaves_alike; all_else = f.all_else ∙ g.all_else }
 
   -- from a configuration like the one at place `made` of a run, replay of the run's next steps
   -- reaches one like that at place `count`
@@ -88,14 +74,14 @@ module _ {R P : Type 0} (is : R → Behaviour P) where
       pub found_alike : (place : RunPart R P) (c : Configuration R P) → lookup (same_place E F place) places.entries ≡ Some c → IsAlike is c (part_end is place)
       found_alike place c kept =
           let at = Contains-lookup (same_place E F place) places.entries c kept in
-          like_trans c (part_end is at.0) (part_end is place) (all (at.0, c) at.1) (like_symm (part_end is place) (part_end is at.0) (ends_alike place at.0 ((place_decides E F d place at.0).0 at.2)))
+          alike_trans c (part_end is at.0) (part_end is place) (all (at.0, c) at.1) (alike_symm (part_end is place) (part_end is at.0) (ends_alike place at.0 ((place_decides E F d place at.0).0 at.2)))
 
       keys_still_match : (test : RunPart R P → Bool) → MatchTheirKeys is (lru_cache (promoted test places.entries) places.cap)
       keys_still_match test e among = all e (Contains-promoted test places.entries e among)
 
       -- after a look-up, a lens's cache is still one (`IsLens`)
-      pub read_lens : (test : RunPart R P → Bool) → places.cap ≡ PLACES → IsLens is (lru_cache (promoted test places.entries) places.cap)
-      read_lens test most = (keys_still_match test, most)
+      pub is_lens_after_find : (test : RunPart R P → Bool) → places.cap ≡ PLACES → IsLens is (lru_cache (promoted test places.entries) places.cap)
+      is_lens_after_find test most = (keys_still_match test, most)
 
       keys_match_after_put : (place : RunPart R P) (c : Configuration R P) → IsAlike is c (part_end is place) → MatchTheirKeys is (lru_cache (put_entries (same_place E F) places place c) places.cap)
       keys_match_after_put place c like e among = elim (Contains-put_entries (same_place E F) places place c e among) [
@@ -104,19 +90,19 @@ module _ {R P : Type 0} (is : R → Behaviour P) where
           | inl here ↦ subst (λ x. IsAlike is x (part_end is e.0)) (sym new.0) (subst (λ x. IsAlike is c (part_end is x)) (sym here) like)
           | inr there ↦
               subst (λ x. IsAlike is x (part_end is e.0)) (sym new.0)
-              (like_trans c (part_end is place) (part_end is e.0) like (ends_alike place e.0 ((place_decides E F d place e.0).0 there.2)))
+              (alike_trans c (part_end is place) (part_end is e.0) like (ends_alike place e.0 ((place_decides E F d place e.0).0 there.2)))
         ]
       ]
 
       -- after a configuration like the one at a place is put in for that place, a lens's cache is
       -- still one (`IsLens`), also if the put fails
-      pub put_lens : {X Y : Type 0} (place : RunPart R P) (c : Configuration R P) (new : LruCache (RunPart R P) (Configuration R P)) (result : Result X Y) → places.cap ≡ PLACES → IsAlike is c (part_end is place)
+      pub is_lens_after_put : {X Y : Type 0} (place : RunPart R P) (c : Configuration R P) (new : LruCache (RunPart R P) (Configuration R P)) (result : Result X Y) → places.cap ≡ PLACES → IsAlike is c (part_end is place)
           → OnOk result (new ≡ lru_cache (put_entries (same_place E F) places place c) places.cap) → OnErr result (new ≡ places) → IsLens is new
-      put_lens place c new (Ok x) most like ok err = subst (IsLens is) (sym ok) (keys_match_after_put place c like, most)
-      put_lens place c new (Err x) most like ok err = subst (IsLens is) (sym err) (all, most)
+      is_lens_after_put place c new (Ok x) most like ok err = subst (IsLens is) (sym ok) (keys_match_after_put place c like, most)
+      is_lens_after_put place c new (Err x) most like ok err = subst (IsLens is) (sym err) (all, most)
 
   -- configurations that are alike have the same pages
-  pub like_page : (kind : ConfigKind) (head : Head) (c d : Configuration R P) → IsAlike is c d → config_page (is c.register) kind head c ≡ config_page (is d.register) kind head d
-  like_page kind head c d like =
+  pub same_page_if_alike : (kind : ConfigKind) (head : Head) (c d : Configuration R P) → IsAlike is c d → config_page (is c.register) kind head c ≡ config_page (is d.register) kind head d
+  same_page_if_alike kind head c d like =
       page_alone (is c.register) (is d.register) kind head c (without_register d) like.behaves_alike like.all_else
       ∙ sym (page_alone (is d.register) (is d.register) kind head d (without_register d) refl refl)

@@ -1,7 +1,8 @@
 pub mod BehaviourAlone
+pub mod Replays
 pub mod Lenses
 pub mod Spots
-pub mod Indices
+pub mod IndexedEvents
 pub mod BranchLengths
 pub mod Slips
 pub mod Strays

@@ -19,12 +19,12 @@ use Rattle.pages.specs.declared.page.head.Head.{Head}
 use Rattle.views.specs.Spots.{part_end, parts_end, IsSpotOf}
 use Rattle.pages.specs.Pages.{config_page, events_page}
 use Rattle.pages.specs.Strays.{Judges, JudgesFrom}
-use Rattle.views.specs.RunPages.{last_page, all_page, content_page, found_last}
+use Rattle.views.specs.RunPages.{last_page, runs_page, content_page, config_content}
 use Rattle.views.specs.ChartLooks.{config_page_in, events_page_in}
 use Rattle.views.specs.Looks.{steps_in}
 use Rattle.views.proofs.BehaviourAlone.{page_alone}
 use Rattle.views.proofs.Spots.{spot_of}
-use Rattle.views.proofs.Strays.{events_judge, fit_in}
+use Rattle.views.proofs.Strays.{events_page_judges, branch_steps_fit}
 
 -- these parts are the result of settling a branch's first steps
 module _ {R P : Type 0} (E : R → R → Bool) (equal : IsEquivalence E) (is : R → Behaviour P) (alike : (x y : R) → E x y ≡ true → is x ≡ is y) (old new : Charted R P) (branch : List ℕ) (place len : ℕ)
@@ -42,17 +42,17 @@ module _ {R P : Type 0} (E : R → R → Bool) (equal : IsEquivalence E) (is : R
       ∙ page_alone (is (parts_end is old.start parts).register) (is old.start.register) kind (head_of (length (steps_in (forest old.trie) branch))) (parts_end is old.start parts)
       (configuration_after (is old.start.register) old.value (take place (steps_in (forest old.trie) branch))) spot.behaves_alike spot.reaches
 
-  pub all_page_is : (kind : EventsKind) → all_page is kind (head_of len) parts ≡ events_page_in is old kind branch place
-  all_page_is kind =
-      ap (λ n. all_page is kind (head_of n) parts) spot.counted
+  pub runs_page_is : (kind : EventsKind) → runs_page is kind (head_of len) parts ≡ events_page_in is old kind branch place
+  runs_page_is kind =
+      ap (λ n. runs_page is kind (head_of n) parts) spot.counted
       ∙ ap (λ events. events_page kind (head_of (length (steps_in (forest old.trie) branch))) (indexed 0 events)) spot.records
 
   -- any verdicts on the page of events are on what the register records on these steps
-  pub all_page_judges : (kind : EventsKind) → old.value < (is old.start.register).values → StepsFit (is old.start.register) (forest old.trie) → JudgesFrom old.value kind
-      → Judges (is old.start.register) (all_page is kind (head_of len) parts)
-  all_page_judges kind within fits judged =
-      subst (Judges (is old.start.register)) (sym (all_page_is kind))
-      (events_judge (is old.start.register) old.value kind branch place (steps_in (forest old.trie) branch) within (fit_in (is old.start.register) (forest old.trie) branch fits) judged)
+  pub runs_page_judges : (kind : EventsKind) → old.value < (is old.start.register).values → StepsFit (is old.start.register) (forest old.trie) → JudgesFrom old.value kind
+      → Judges (is old.start.register) (runs_page is kind (head_of len) parts)
+  runs_page_judges kind within fits judged =
+      subst (Judges (is old.start.register)) (sym (runs_page_is kind))
+      (events_page_judges (is old.start.register) old.value kind branch place (steps_in (forest old.trie) branch) within (branch_steps_fit (is old.start.register) (forest old.trie) branch fits) judged)
 
 -- if no part is the last, there are no parts
 no_last : {R P : Type 0} (parts : List (RunPart R P)) → last_part parts ≡ None → parts ≡ []
@@ -71,7 +71,7 @@ end_of_last is c (part ∷ []) last e = let same : part ≡ last = cc in ap (par
 end_of_last is c (part ∷ next ∷ parts) last e = end_of_last is (part_end is part) (next ∷ parts) last e
 
 -- the page made from the last part alone is the page of the configuration that all parts reach
-pub found_is_last : {R P : Type 0} (is : R → Behaviour P) (kind : ConfigKind) (head : Head) (first : Configuration R P) (parts : List (RunPart R P)) (last : Option (Arc (SegmentRun R P) Global × ℕ))
-    → last_part parts ≡ option_map part_of last → content_page is (found_last kind head first last) ≡ last_page is kind head first parts
-found_is_last is kind head first parts None e = ap (last_page is kind head first) (sym (no_last parts e))
-found_is_last {R} {P} is kind head first parts (Some x) e = ap (λ (c : Configuration R P). config_page (is c.register) kind head c) (sym (end_of_last is first parts (part_of x) e))
+pub config_content_page : {R P : Type 0} (is : R → Behaviour P) (kind : ConfigKind) (head : Head) (first : Configuration R P) (parts : List (RunPart R P)) (last : Option (Arc (SegmentRun R P) Global × ℕ))
+    → last_part parts ≡ option_map part_of last → content_page is (config_content kind head first last) ≡ last_page is kind head first parts
+config_content_page is kind head first parts None e = ap (last_page is kind head first) (sym (no_last parts e))
+config_content_page {R} {P} is kind head first parts (Some x) e = ap (λ (c : Configuration R P). config_page (is c.register) kind head c) (sym (end_of_last is first parts (part_of x) e))

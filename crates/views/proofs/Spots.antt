@@ -10,8 +10,7 @@ use Rattle.std.proofs.Math.Seq.{take-append-add}
 use Rattle.std.proofs.lemmas.List.{take_all, map-append, length-map, take-append-le}
 use Rattle.frames.specs.declared.types.Step.{Step}
 use Rattle.frames.specs.Behaviour.{Behaviour}
-use Rattle.frames.specs.Configuration.{Configuration, initial_configuration, stepped, replayed, history}
-use Rattle.frames.specs.Configuration.{events_of as events_of_step}
+use Rattle.frames.specs.Configuration.{Configuration, initial_configuration, replayed, history}
 use Rattle.frames.specs.Equality.{SameConfiguration}
 use Rattle.schedule_trie.specs.Forest.{Forest, step_of, index_of, slots_in, path_by, len_of}
 use Rattle.schedule_trie.specs.Trie.{TrieOf, segment_at, slots_of, line, forest}
@@ -19,12 +18,20 @@ use Rattle.schedule_trie.proofs.branches.Lines.{slots_in_on}
 use Rattle.cutoff.specs.Fitting.{StoredRun, RunPart, RunFits, steps_at, reached, counted, part_of}
 use Rattle.cutoff.specs.Settles.{Settles, IsSettled}
 use Rattle.cutoff.specs.Charts.{Charted, keys_named}
-use Rattle.cutoff.specs.Links.{without_register}
 use Rattle.cutoff.proofs.Fits.{register_kept, replayed_same, without_register_same}
-use Rattle.frames.specs.Recorded.{first_configuration}
+use Rattle.frames.specs.Recorded.{first_configuration, without_register}
 use Rattle.views.specs.Spots.{part_end, part_events, parts_end, parts_events, IsSpotOf}
 use Rattle.views.specs.Looks.{steps_in}
-use Rattle.views.proofs.BehaviourAlone.{replayed_alone, history_alone, replayed-append, history-append, history_same}
+use Rattle.views.proofs.BehaviourAlone.{replayed_alone, history_alone, history_same}
+use Rattle.views.proofs.Replays.{replayed-append, history-append, history-take}
+
+-- the steps of the segments with these keys, one segment after the other
+abbrev pub steps_along : {R P : Type 0} → TrieOf (StoredRun R P) → List ℕ → List Step
+steps_along trie keys = map step_of (line (segment_at trie.segments) keys)
+
+-- the steps along several keys are those of the first key's segment, then those along the rest
+pub steps_along_more : {R P : Type 0} (trie : TrieOf (StoredRun R P)) (k : ℕ) (ks : List ℕ) → steps_along trie (k ∷ ks) ≡ steps_at trie k ++ steps_along trie ks
+steps_along_more trie k ks = map-append step_of (slots_of (segment_at trie.segments k)) (line (segment_at trie.segments) ks)
 
 module _ {R P : Type 0} (E : R → R → Bool) (equal : IsEquivalence E) (is : R → Behaviour P) (alike : (x y : R) → E x y ≡ true → is x ≡ is y)
     (b : Behaviour P) (old new : TrieOf (StoredRun R P)) where
@@ -36,13 +43,6 @@ module _ {R P : Type 0} (E : R → R → Bool) (equal : IsEquivalence E) (is : R
   no_parts_replay : (c d : Configuration R P) (parts : List (RunPart R P)) (place : ℕ) (steps : List Step) → SameConfiguration E d c → parts ≡ [] → place ≡ 0 → ReplaysAs c d parts (take place steps)
   no_parts_replay c d parts place steps same none e =
       subst (λ n. ReplaysAs c d parts (take n steps)) (sym e) (subst (λ ps. ReplaysAs c d ps []) (sym none) (record { end = same; events = refl }))
-
-  -- the steps of the segments with these keys, one segment after the other
-  abbrev steps_along : List ℕ → List Step
-  steps_along keys = map step_of (line (segment_at old.segments) keys)
-
-  steps_along_more : (k : ℕ) (ks : List ℕ) → steps_along (k ∷ ks) ≡ steps_at old k ++ steps_along ks
-  steps_along_more k ks = map-append step_of (slots_of (segment_at old.segments k)) (line (segment_at old.segments) ks)
 
   -- a part that counts n steps of its segment
   module _ (c : Configuration R P) (k n : ℕ) (part : RunPart R P) (home : is c.register ≡ b) (fits : RunFits E c (steps_at old k) part.run) (count : part.count ≡ n) where
@@ -70,14 +70,14 @@ module _ {R P : Type 0} (E : R → R → Bool) (equal : IsEquivalence E) (is : R
       (subst (λ (t : Bool). Settles E b old new c place (cond t [] (k ∷ reached old (place - length (steps_at old k)) ks)) parts n) (ap (λ m. nat_eq m 0) e) h).0
 
   settled_parts_replay : (c d : Configuration R P) (place : ℕ) (keys : List ℕ) (parts : List (RunPart R P)) (n : ℕ) → is c.register ≡ b → SameConfiguration E d c → counted parts ≡ place
-      → Settles E b old new c place (reached old place keys) parts n → ReplaysAs c d parts (take place (steps_along keys))
+      → Settles E b old new c place (reached old place keys) parts n → ReplaysAs c d parts (take place (steps_along old keys))
   settled_parts_replay c d place [] parts n home same sum h = no_parts_replay c d parts place [] same h.0 (sym sum ∙ ap counted h.0)
   settled_parts_replay c d place (k ∷ ks) parts n home same sum h = by (λ c' d' place' parts' n'. settled_parts_replay c' d' place' ks parts' n') (nat_eq place 0) refl parts sum h
     where
       -- what `settled_parts_replay` states, of the segments after this one
       Later : Type 0
       Later = (c' d' : Configuration R P) (place' : ℕ) (parts' : List (RunPart R P)) (n' : ℕ) → is c'.register ≡ b → SameConfiguration E d' c' → counted parts' ≡ place'
-          → Settles E b old new c' place' (reached old place' ks) parts' n' → ReplaysAs c' d' parts' (take place' (steps_along ks))
+          → Settles E b old new c' place' (reached old place' ks) parts' n' → ReplaysAs c' d' parts' (take place' (steps_along old ks))
 
       len : ℕ
       len = length (steps_at old k)
@@ -86,24 +86,24 @@ module _ {R P : Type 0} (E : R → R → Bool) (equal : IsEquivalence E) (is : R
       next = replayed b c (steps_at old k)
 
       whole_part : (part : RunPart R P) (rest : List (RunPart R P)) → RunFits E c (steps_at old k) part.run → part.count ≡ len → len ≤ place
-          → ReplaysAs next (part_end is part) rest (take (place - len) (steps_along ks)) → ReplaysAs c d (part ∷ rest) (take place (steps_along (k ∷ ks)))
+          → ReplaysAs next (part_end is part) rest (take (place - len) (steps_along old ks)) → ReplaysAs c d (part ∷ rest) (take place (steps_along old (k ∷ ks)))
       whole_part part rest fits count h later =
           let sum_is : place ≡ len + (place - len) = omega (arith, h) in
-          let all : take place (steps_along (k ∷ ks)) ≡ steps_at old k ++ take (place - len) (steps_along ks) =
-          ap (take place) (steps_along_more k ks) ∙ ap (λ m. take m (steps_at old k ++ steps_along ks)) sum_is ∙ take-append-add (steps_at old k) (steps_along ks) (place - len) in
+          let all : take place (steps_along old (k ∷ ks)) ≡ steps_at old k ++ take (place - len) (steps_along old ks) =
+          ap (take place) (steps_along_more old k ks) ∙ ap (λ m. take m (steps_at old k ++ steps_along old ks)) sum_is ∙ take-append-add (steps_at old k) (steps_along old ks) (place - len) in
           let every : take len (steps_at old k) ≡ steps_at old k = take_all len (steps_at old k) (omega arith) in
           subst (ReplaysAs c d (part ∷ rest)) (sym all)
           (record {
-            end = subst (SameConfiguration E (parts_end is (part_end is part) rest)) (sym (replayed-append b c (steps_at old k) (take (place - len) (steps_along ks)))) later.end;
+            end = subst (SameConfiguration E (parts_end is (part_end is part) rest)) (sym (replayed-append b c (steps_at old k) (take (place - len) (steps_along old ks)))) later.end;
             events = ap (λ es. es ++ parts_events is rest) (part_events_are c k len part home fits count ∙ ap (history b c) every)
-                ∙ ap (λ es. history b c (steps_at old k) ++ es) later.events ∙ sym (history-append b c (steps_at old k) (take (place - len) (steps_along ks)));
+                ∙ ap (λ es. history b c (steps_at old k) ++ es) later.events ∙ sym (history-append b c (steps_at old k) (take (place - len) (steps_along old ks)));
           })
 
-      last_part : (part : RunPart R P) (rest : List (RunPart R P)) → RunFits E c (steps_at old k) part.run → part.count ≡ place → place < len → rest ≡ []
-          → ReplaysAs c d (part ∷ rest) (take place (steps_along (k ∷ ks)))
-      last_part part rest fits count h none =
-          let all : take place (steps_along (k ∷ ks)) ≡ take place (steps_at old k) =
-          ap (take place) (steps_along_more k ks) ∙ take-append-le place (steps_at old k) (steps_along ks) (omega (arith, h)) in
+      only_part : (part : RunPart R P) (rest : List (RunPart R P)) → RunFits E c (steps_at old k) part.run → part.count ≡ place → place < len → rest ≡ []
+          → ReplaysAs c d (part ∷ rest) (take place (steps_along old (k ∷ ks)))
+      only_part part rest fits count h none =
+          let all : take place (steps_along old (k ∷ ks)) ≡ take place (steps_at old k) =
+          ap (take place) (steps_along_more old k ks) ∙ take-append-le place (steps_at old k) (steps_along old ks) (omega (arith, h)) in
           subst (ReplaysAs c d (part ∷ rest)) (sym all)
           (subst (λ ps. ReplaysAs c d (part ∷ ps) (take place (steps_at old k))) (sym none)
           (record {
@@ -112,11 +112,11 @@ module _ {R P : Type 0} (E : R → R → Bool) (equal : IsEquivalence E) (is : R
           }))
 
       at_least_one_part : Later → (part : RunPart R P) (rest : List (RunPart R P)) (m : ℕ) → part.count + counted rest ≡ place
-          → Settles E b old new c place (k ∷ reached old (place - len) ks) (part ∷ rest) m → ReplaysAs c d (part ∷ rest) (take place (steps_along (k ∷ ks)))
+          → Settles E b old new c place (k ∷ reached old (place - len) ks) (part ∷ rest) m → ReplaysAs c d (part ∷ rest) (take place (steps_along old (k ∷ ks)))
       at_least_one_part later part rest m sum h = elim (cases_lt place len) [
         | inl less ↦
             let count : part.count ≡ place = h.3.count ∙ omega (arith, less) in
-            last_part part rest h.3.fits count less (none_reached next (place - len) ks rest h.1 (omega (arith, less)) h.4)
+            only_part part rest h.3.fits count less (none_reached next (place - len) ks rest h.1 (omega (arith, less)) h.4)
         | inr more ↦
             let count : part.count ≡ len = h.3.count ∙ omega (arith, more) in
             let every : take len (steps_at old k) ≡ steps_at old k = take_all len (steps_at old k) (omega arith) in
@@ -127,15 +127,10 @@ module _ {R P : Type 0} (E : R → R → Bool) (equal : IsEquivalence E) (is : R
       ]
 
       by : Later → (t : Bool) → nat_eq place 0 ≡ t → (parts : List (RunPart R P)) → counted parts ≡ place
-          → Settles E b old new c place (cond t [] (k ∷ reached old (place - len) ks)) parts n → ReplaysAs c d parts (take place (steps_along (k ∷ ks)))
-      by later true e parts sum h = no_parts_replay c d parts place (steps_along (k ∷ ks)) same h.0 (eqb-true place 0 e)
+          → Settles E b old new c place (cond t [] (k ∷ reached old (place - len) ks)) parts n → ReplaysAs c d parts (take place (steps_along old (k ∷ ks)))
+      by later true e parts sum h = no_parts_replay c d parts place (steps_along old (k ∷ ks)) same h.0 (eqb-true place 0 e)
       by later false e [] sum h = absurd h
       by later false e (part ∷ rest) sum h = at_least_one_part later part rest n sum h
-
-history-take : {R P : Type 0} (b : Behaviour P) (c : Configuration R P) (n : ℕ) (steps : List Step) → take n (history b c steps) ≡ history b c (take n steps)
-history-take b c zero steps = refl
-history-take b c (suc n) [] = refl
-history-take b c (suc n) (s ∷ steps) = ap (λ events. events_of_step b c s ∷ events) (history-take b (stepped b c s) n steps)
 
 -- one more part adds the events of its first steps to those of the parts before it
 pub events_more : {R P Z : Type 0} (is : R → Behaviour P) (runs : List (Arc (SegmentRun R P) Z × ℕ)) (i : ℕ) (x : Arc (SegmentRun R P) Z × ℕ) → i < length runs → x ≡ get_or runs i x

@@ -89,14 +89,14 @@ slip_shows_no_stray b lawful (Ok slip) h = shows_no_stray b (never_stray b lawfu
 slip_shows_no_stray b lawful (Err e) h = tt
 
 -- a page that judges this register judges the register `judged`, if that is the same register
-pub judges_its : {R P : Type 0} (is : R → Behaviour P) (register : R) (judged : Option R) → judged ≡ Some register → (p : Page) → Judges (is register) p → JudgesRegister is judged p
-judges_its is register judged named p h = subst (λ o. JudgesRegister is o p) (sym named) h
+pub judges_same_register : {R P : Type 0} (is : R → Behaviour P) (register : R) (judged : Option R) → judged ≡ Some register → (p : Page) → Judges (is register) p → JudgesRegister is judged p
+judges_same_register is register judged named p h = subst (λ o. JudgesRegister is o p) (sym named) h
 
 -- the page of a branch's events judges what the register records on the branch's first steps
-pub events_judge : {P : Type 0} (b : Behaviour P) (value : ℕ) (what : EventsKind) (branch : List ℕ) (place : ℕ) (steps : List Step) → value < b.values → AllFit b steps → JudgesFrom value what
+pub events_page_judges : {P : Type 0} (b : Behaviour P) (value : ℕ) (what : EventsKind) (branch : List ℕ) (place : ℕ) (steps : List Step) → value < b.values → AllFit b steps → JudgesFrom value what
     → Judges b (events_at b value what branch place steps)
-events_judge b value which.History branch place steps within fit h = tt
-events_judge {P} b value (which.Verdict from) branch place steps within fit h = by from h
+events_page_judges b value which.History branch place steps within fit h = tt
+events_page_judges {P} b value (which.Verdict from) branch place steps within fit h = by from h
   where
     by : (from : Option ℕ) → IfSome from (λ initial. initial ≡ value) → Judges b (events_at b value (which.Verdict from) branch place steps)
     by None h = tt
@@ -110,8 +110,8 @@ events_judge {P} b value (which.Verdict from) branch place steps within fit h = 
         }
 
 -- if each step of each branch fits, so does each step of the branch with this name
-pub fit_in : {P : Type 0} (b : Behaviour P) (f : Forest) (name : List ℕ) → StepsFit b f → AllFit b (steps_in f name)
-fit_in b f name fits = by (index_of f.branches name)
+pub branch_steps_fit : {P : Type 0} (b : Behaviour P) (f : Forest) (name : List ℕ) → StepsFit b f → AllFit b (steps_in f name)
+branch_steps_fit b f name fits = by (index_of f.branches name)
   where
     by : (o : Option ℕ) → AllFit b (unwrap_or (path_by o f) [])
     by None = All-nil (λ s. fits_step b s ≡ true)
@@ -137,4 +137,4 @@ never_shows_stray b lawful value f query.Branches within fits = tt
 never_shows_stray b lawful value f (query.Cursor who) within fits = tt
 never_shows_stray b lawful value f (query.Verdict branch place) within fits =
     shows_no_stray b (never_stray b lawful) (events_at b value (which.Verdict (judged_from b value)) branch place (steps_in f branch))
-    (events_judge b value (which.Verdict (judged_from b value)) branch place (steps_in f branch) within (fit_in b f branch fits) (judged_from_initial b value))
+    (events_page_judges b value (which.Verdict (judged_from b value)) branch place (steps_in f branch) within (branch_steps_fit b f branch fits) (judged_from_initial b value))

@@ -32,9 +32,9 @@ events_page_in is chart what branch place = events_at (is chart.start.register) 
 abbrev pub steps_page : Forest → List ℕ → Page
 steps_page f branch = Steps (record { branch = branch; steps = steps_in f branch })
 
--- The result is that of a look at a chart's branch after its first `place` steps: a slip, or an error
--- by which the look is refused. The slip remembers the chart's register, and any verdicts on its page
--- are on a history of that register.
+-- The result is that of a look at a chart's branch after its first `place` steps: a slip, or an
+-- error by which the look is refused. The slip remembers the chart's register, and any verdicts on
+-- its page are on a history of that register.
 pub record IsLookAt {R P : Type 0} (is : R → Behaviour P) (chart : Charted R P) (branch : List ℕ) (place : ℕ) (result : Result (Slipped R) Refusal) : Type 0 where
   pub found : OnOk result (look (forest chart.trie) branch place ≡ Ok (forest chart.trie))
   pub err : IfErr result (IsRefused (look (forest chart.trie) branch place))

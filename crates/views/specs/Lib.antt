@@ -1,6 +1,6 @@
 pub mod Digests
 pub mod Spots
-pub mod Places
+pub mod HashedSteps
 pub mod Lenses
 pub mod laws
 pub mod RunPages

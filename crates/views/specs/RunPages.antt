@@ -27,18 +27,18 @@ module _ {R P : Type 0} (is : R → Behaviour P) where
   last_page kind head first parts = config_page (is (parts_end is first parts).register) kind head (parts_end is first parts)
 
   -- the page, of a given kind, of the events that these parts of runs record
-  abbrev pub all_page : EventsKind → Head → List (RunPart R P) → Page
-  all_page kind head parts = events_page kind head (indexed 0 (parts_events is parts))
+  abbrev pub runs_page : EventsKind → Head → List (RunPart R P) → Page
+  runs_page kind head parts = events_page kind head (indexed 0 (parts_events is parts))
 
   -- the page that is made from what a slip holds
   abbrev pub content_page : Content R P → Page
   content_page (Initial kind head c) = config_page (is c.register) kind head c
   content_page (Last kind head run count) = part_page kind head (part_of (run, count))
-  content_page (Runs kind head runs) = all_page kind head runs
+  content_page (Runs kind head runs) = runs_page kind head runs
   content_page (Ready page) = page
 
 -- what a slip holds for a page of a configuration: the last run up to the place, with how many of
 -- its steps precede the place; or, if there is no run, the configuration `first`
-abbrev pub found_last : {R P : Type 0} → ConfigKind → Head → Configuration R P → Option (Arc (SegmentRun R P) Global × ℕ) → Content R P
-found_last kind head first None = Initial kind head first
-found_last kind head first (Some part) = Last kind head part.0 part.1
+abbrev pub config_content : {R P : Type 0} → ConfigKind → Head → Configuration R P → Option (Arc (SegmentRun R P) Global × ℕ) → Content R P
+config_content kind head first None = Initial kind head first
+config_content kind head first (Some part) = Last kind head part.0 part.1

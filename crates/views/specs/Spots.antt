@@ -6,8 +6,7 @@ use Rattle.frames.specs.declared.types.StepEvents.{StepEvents}
 use Rattle.frames.specs.Behaviour.{Behaviour}
 use Rattle.frames.specs.Configuration.{Configuration, replayed, history}
 use Rattle.cutoff.specs.Fitting.{RunPart}
-use Rattle.cutoff.specs.Links.{without_register}
-use Rattle.frames.specs.Recorded.{first_configuration, configuration_after}
+use Rattle.frames.specs.Recorded.{first_configuration, configuration_after, without_register}
 
 module _ {R P : Type 0} (is : R → Behaviour P) where
   -- the configuration that a part reaches: the one after the first `count` steps of its run

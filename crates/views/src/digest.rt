@@ -27,13 +27,17 @@ pub(crate) fn digest(steps: &[Step]) -> u64
 fn digest_with_step(digest: u64, step: Step) -> u64
     ensures { result ≡ spec.digest_with_step digest step }
 {
-    digest.wrapping_mul(FACTOR).wrapping_add(word_of_step(step))
+    digest
+        .wrapping_mul(FACTOR)
+        .wrapping_add(number_of_step(step))
 }
 
-/// The number that a step adds to a digest. Bit actions, the most frequent, are matched first.
+/// The number that a step adds to a digest: its two lowest bits say which kind of step it is, the
+/// process is above them, and the choice or value is at 1024 and above. Bit actions, the most
+/// frequent, are matched first.
 #[inline(always)]
-fn word_of_step(step: Step) -> u64
-    ensures { result ≡ spec.word_of_step step }
+fn number_of_step(step: Step) -> u64
+    ensures { result ≡ spec.number_of_step step }
 {
     match step {
         Step::Go { p, c } => 4 * u64::from(p) + 1024 * u64::from(c),

@@ -12,7 +12,7 @@ use checkpoints::run::Run;
 use frames::config::Config;
 use frames::register::Register;
 use lru::LruCache;
-use slices::front;
+use slices::{following, front};
 use std::alloc::{AllocError, Global};
 use std::marker::Model;
 use std::num::NonZeroUsize;
@@ -192,7 +192,7 @@ fn advanced<R: Register>(run: &Run<R>, made: u32, count: u32, config: Config<R>)
     let mut config = config;
     make_steps(
         &mut config,
-        &front(run.steps(), count as usize)[made as usize..],
+        following(front(run.steps(), count as usize), made as usize),
     );
     config
 }

@@ -4,7 +4,7 @@ ghost use Rattle.std.specs.Prelude.{◌≡◌, ◌++◌, IfOk};
 ghost use Rattle.std.specs.Arc.{arc_value};
 ghost use Rattle.std.specs.Hash as fed;
 ghost use Rattle.views.specs.Digests.{digest};
-ghost use Rattle.views.specs.Places.{hashed_steps};
+ghost use Rattle.views.specs.HashedSteps.{hashed_steps};
 
 use crate::digest::digest;
 use checkpoints::run::Run;

@@ -6,7 +6,7 @@ ghost use Rattle.schedule_trie.specs.Trie.{forest};
 ghost use Rattle.views.specs.Looks as spec;
 ghost use Rattle.views.specs.Looks.{looked, IsChartKept};
 ghost use Rattle.views.specs.ChartLooks.{IsLookAt, shown_by, config_page_in, events_page_in, steps_page};
-ghost use Rattle.views.specs.RunPages.{found_last};
+ghost use Rattle.views.specs.RunPages.{config_content};
 ghost use Rattle.pages.specs.Strays.{IsRegularOrAtomic, Judges, JudgesRegister, JudgesFrom, ShowsNoStray};
 
 use crate::lens::Lens;
@@ -175,7 +175,7 @@ fn config_slip<R: Register>(
     let last = chart.settle_last(alloc, &branch, place)?;
     let len = last.len;
     let head = Head { branch, place, len };
-    let content = found_last(alloc, kind, head, chart.initial(), last.part)?;
+    let content = config_content(alloc, kind, head, chart.initial(), last.part)?;
     Ok(Slip { content, judged })
 }
 
@@ -206,14 +206,14 @@ fn events_slip<R: Register>(
 
 /// What a slip holds for a page of a configuration: the last run up to the place, or the
 /// configuration `first` if there is no run.
-fn found_last<R: Register>(
+fn config_content<R: Register>(
     alloc: Global,
     kind: ConfigKind,
     head: Head,
     first: &Config<R>,
     last: Option<(Arc<Run<R>>, u32)>,
 ) -> Result<Content<R>, AllocError>
-    ensures { IfOk result (λ content. content ≡ found_last kind head first.now last) }
+    ensures { IfOk result (λ content. content ≡ config_content kind head first.now last) }
 {
     match last {
         None => Ok(Content::Initial(kind, head, first.copy(alloc)?)),

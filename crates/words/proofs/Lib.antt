@@ -2,6 +2,9 @@ pub mod Splits
 pub mod Digits
 pub mod Numbers
 pub mod Texts
+pub mod Options
+pub mod NumberWords
 pub mod Steps
+pub mod NextSteps
 pub mod Pushed
 pub mod Fronts

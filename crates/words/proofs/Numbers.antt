@@ -24,19 +24,22 @@ decimal_model = numerals_by_value AreDigits are_digits_test
 abbrev IsPlainForm : List ℕ → Type 0
 IsPlainForm word = get_or word 0 0 ≡ 48 → length word ≡ 1
 
-short_form : (d : ℕ) (ds : List ℕ) → (not (d == 48) || length ds == 0) ≡ true → IsPlainForm (d ∷ ds)
-short_form d ds h zero =
+-- a word of digits that passes this test is in plain form
+plain_form : (d : ℕ) (ds : List ℕ) → (not (d == 48) || length ds == 0) ≡ true → IsPlainForm (d ∷ ds)
+plain_form d ds h zero =
     elim (or_cases (not (d == 48)) (length ds == 0) h) [
       | inl other ↦ absurd (eqb-false d 48 (not-true (d == 48) other) zero)
       | inr alone ↦ omega (arith, eqb-true (length ds) 0 alone)
     ]
 
+-- a number's word has at most 9 digits, alone, in plain form
 is_number_parts : (d : ℕ) (ds : List ℕ) → is_number (d ∷ ds) ≡ true → (length ds ≤ 8) × IsPlainForm (d ∷ ds) × AreDigits (d ∷ ds)
 is_number_parts d ds h =
     let whole = and_parts (nat_le (length ds) 8 && (not (d == 48) || length ds == 0)) (list_all is_ascii_digit (d ∷ ds)) h in
     let front = and_parts (nat_le (length ds) 8) (not (d == 48) || length ds == 0) whole.0 in
-    (leb-true (length ds) 8 front.0, short_form d ds front.1, whole.1)
+    (leb-true (length ds) 8 front.0, plain_form d ds front.1, whole.1)
 
+-- a word that is read as a number is its decimal form
 pub decimal-number : (word : List ℕ) (n : ℕ) → number word ≡ Some n → (n < 10 ^ 9) × (word ≡ decimal n)
 decimal-number [] n h = absurd cc
 decimal-number (d ∷ ds) n h =
@@ -46,6 +49,7 @@ decimal-number (d ∷ ds) n h =
     let same = decimal-digits_value decimal_model (d ∷ ds) p.2 (omega arith) p.1 (omega (arith, small)) in
     subst (λ m. (m < 10 ^ 9) × ((d ∷ ds) ≡ decimal m)) c.1 (small, sym same)
 
+-- a word of 1 to 9 digits in plain form is a number's
 is_number_from : (word : List ℕ) → 0 < length word → length word ≤ 9 → IsPlainForm word → AreDigits word → is_number word ≡ true
 is_number_from [] some short plain digits = absurd (omega arith)
 is_number_from (d ∷ ds) some short plain digits =
@@ -64,9 +68,11 @@ plain_decimal n lt =
       | inr other ↦ λ first. absurd (omega (arith, first, first_decimal n (omega arith) lt))
     ]
 
+-- the decimal form has digits alone
 pub digits-decimal : (n : ℕ) → n < 10 ^ 9 → list_all is_ascii_digit (decimal n) ≡ true
 digits-decimal n lt = digits_decimal decimal_model n (omega arith)
 
+-- the decimal form of a number is read as it
 pub number-decimal : (n : ℕ) → n < 10 ^ 9 → number (decimal n) ≡ Some n
 number-decimal n lt =
     let few : n < 2 ^ 64 = omega arith in
@@ -74,13 +80,14 @@ number-decimal n lt =
     ap (λ b. cond b (Some (digits_value 10 (decimal n))) None) test ∙ ap (λ m. Some m) (digits_value-decimal decimal_model n few)
 
 -- a number with at most 8 digits is below 10 ^ 8
-pub eight_digits : (n : ℕ) → n < 10 ^ 9 → length (decimal n) ≤ 8 → n < 10 ^ 8
-eight_digits n lt short =
+pub below_ten_to_8 : (n : ℕ) → n < 10 ^ 9 → length (decimal n) ≤ 8 → n < 10 ^ 8
+below_ten_to_8 n lt short =
     let few : n < 2 ^ 64 = omega arith in
     omega (arith, digits_value_short decimal_model (decimal n) 8 (digits-decimal n lt) short, digits_value-decimal decimal_model n few)
 
-pub nine_digits : (n : ℕ) → n < 10 ^ 9 → length (decimal n) ≤ 9
-nine_digits n lt = length-decimal-le 9 n (lit< tt) lt (omega arith)
+-- a number below 10 ^ 9 has at most 9 digits
+pub at_most_9_digits : (n : ℕ) → n < 10 ^ 9 → length (decimal n) ≤ 9
+at_most_9_digits n lt = length-decimal-le 9 n (lit< tt) lt (omega arith)
 
 -- the decimal form of a number begins with a digit
 pub digit_first : (n : ℕ) → n < 10 ^ 9 → (d : ℕ) × (ds : List ℕ) × (is_ascii_digit d ≡ true) × (decimal n ≡ d ∷ ds)

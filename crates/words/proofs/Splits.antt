@@ -1,11 +1,11 @@
--- A text is cut at each byte that passes a test.
+-- A text is cut at each byte that passes a test: its parts, and how many lines it has.
 use Rattle.std.specs.Option.{option_map}
-use Rattle.std.proofs.Common.{Bor, Option, Some, None, not, is_some, ◌==◌, ◌≡◌, ℕ, ◌+◌, ◌<◌, ◌≤◌, Bool, true, false, cond, List, [], ◌∷◌, length, take, drop, refl, sym, ap, ◌∙◌, arith}
+use Rattle.std.proofs.Common.{Bor, Option, Some, None, not, is_some, ◌==◌, ◌≡◌, ℕ, ◌+◌, ◌<◌, ◌≤◌, Bool, true, false, cond, List, [], ◌∷◌, length, take, drop, refl, sym, ap, ◌∙◌, arith, ◌^◌}
 use Rattle.std.specs.List.{slice_split, onto_first, position, position_or_len}
 use Rattle.std.proofs.lemmas.Grind.{common_steps}
-use Rattle.std.proofs.lemmas.List.Sums.{fails_before_first}
-use Rattle.std.proofs.lemmas.List.Splits.{slice_split_none, slice_split_first}
-use Rattle.words.specs.Words.{parts_left, is_end}
+use Rattle.std.proofs.lemmas.List.Sums.{fails_before_first, count_by-le-length}
+use Rattle.std.proofs.lemmas.List.Splits.{slice_split_none, slice_split_first, length-slice_split}
+use Rattle.words.specs.Words.{parts_left, is_end, lines}
 
 module _ (p : ℕ → Bool) where
   -- a text in which no byte passes the test is one part
@@ -39,3 +39,7 @@ is_end-parts_left c None true e = refl
 is_end-parts_left c None false e = cc
 is_end-parts_left c (Some text) true e = cc
 is_end-parts_left c (Some text) false e = sym (split_nonempty (λ b. b == c) text.now)
+
+-- fewer than 2^63 bytes have at most 2^63 lines
+pub few_lines : (bytes : List ℕ) (ls : List (List ℕ)) → ls ≡ lines bytes → length bytes < 2 ^ 63 → length ls ≤ 2 ^ 63
+few_lines bytes ls e few = omega (arith, ap length e, length-slice_split (λ b. b == 10) bytes, count_by-le-length (λ b. b == 10) bytes)

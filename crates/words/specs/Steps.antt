@@ -18,15 +18,15 @@ step_of_words ws =
     else None)))
 
 -- a word and then, for each number, a space and the number in decimal
-abbrev pub text : List ℕ → List ℕ → List ℕ
-text word numbers = word ++ flat_map (λ n. 32 ∷ decimal n) numbers
+abbrev pub word_with_numbers : List ℕ → List ℕ → List ℕ
+word_with_numbers word numbers = word ++ flat_map (λ n. 32 ∷ decimal n) numbers
 
 -- the text that spells a step: its letter and then, for each of its numbers, a space and the number
 abbrev pub step_text : Step → List ℕ
-step_text (step.Write p v) = text (codes "w") (p ∷ v ∷ [])
-step_text (step.Read p) = text (codes "r") (p ∷ [])
-step_text (step.Go p c) = text (codes "g") (p ∷ c ∷ [])
-step_text (step.Stop p) = text (codes "x") (p ∷ [])
+step_text (step.Write p v) = word_with_numbers (codes "w") (p ∷ v ∷ [])
+step_text (step.Read p) = word_with_numbers (codes "r") (p ∷ [])
+step_text (step.Go p c) = word_with_numbers (codes "g") (p ∷ c ∷ [])
+step_text (step.Stop p) = word_with_numbers (codes "x") (p ∷ [])
 
 -- Each number of a step is below 10 ^ 9, so that it has a spelling of at most 9 digits.
 abbrev pub HasShortNumbers : Step → Type 0

@@ -14,7 +14,7 @@ pub fn one_spelling_of_number()
 
 /// A line is read as the step `s` exactly if the numbers of `s` are below 10 ^ 9 and the line is
 /// the text of `s`.
-pub fn one_step()
+pub fn one_spelling_of_step()
     ensures { (line : List ℕ) (s : Step)
         → (step_of_words (words line) ≡ Some s) ↔ (HasShortNumbers s
         × (line ≡ step_text s)) }

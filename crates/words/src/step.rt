@@ -43,7 +43,7 @@ pub fn push_step(out: &mut Vec<u8>, step: Step) -> Result<(), AllocError>
 /// Fails only if memory runs out.
 fn push_letter(out: &mut Vec<u8>, letter: u8, numbers: &[u32]) -> Result<(), AllocError>
     ensures { OnOk result
-        (out.new.items ≡ out.old.items ++ spec.text (letter ∷ []) numbers.now) }
+        (out.new.items ≡ out.old.items ++ spec.word_with_numbers (letter ∷ []) numbers.now) }
 {
     out.push(letter)?;
     push_numbers(out, numbers)
@@ -51,8 +51,13 @@ fn push_letter(out: &mut Vec<u8>, letter: u8, numbers: &[u32]) -> Result<(), All
 
 /// Adds a word at the end of `out` and then, for each number, a space and the number. Fails only if
 /// memory runs out.
-pub fn push_words(out: &mut Vec<u8>, word: &str, numbers: &[u32]) -> Result<(), AllocError>
-    ensures { OnOk result (out.new.items ≡ out.old.items ++ spec.text word.now numbers.now) }
+pub fn push_word_with_numbers(
+    out: &mut Vec<u8>,
+    word: &str,
+    numbers: &[u32],
+) -> Result<(), AllocError>
+    ensures { OnOk result
+        (out.new.items ≡ out.old.items ++ spec.word_with_numbers word.now numbers.now) }
 {
     push_text(out, word)?;
     push_numbers(out, numbers)
@@ -61,7 +66,7 @@ pub fn push_words(out: &mut Vec<u8>, word: &str, numbers: &[u32]) -> Result<(), 
 /// Adds at the end of `out`, for each number, a space and the number. Fails only if memory runs
 /// out.
 fn push_numbers(out: &mut Vec<u8>, numbers: &[u32]) -> Result<(), AllocError>
-    ensures { OnOk result (out.new.items ≡ out.old.items ++ spec.text [] numbers.now) }
+    ensures { OnOk result (out.new.items ≡ out.old.items ++ spec.word_with_numbers [] numbers.now) }
 {
     for number in numbers {
         out.push(b' ')?;

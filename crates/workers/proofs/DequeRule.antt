@@ -18,6 +18,7 @@ weigh-append h (x ∷ xs) ys = omega (arith, weigh-append h xs ys)
 pub below_more : (h : ℕ → ℕ) (n : ℕ) → weigh_below h (n + 1) ≡ weigh_below h n + h n
 below_more h n = rw add-one
 
+-- a number below n + 1 is n, or is below n
 last_or_before : (x n : ℕ) → x < suc n → (n ≡ x) ⊎ (x < n)
 last_or_before x n below = search rules
 
@@ -39,6 +40,7 @@ one_below x (suc n) below =
     ⊎_elim (λ (last : n ≡ x). let here : one_at x n ≡ 1 = subst (λ (y : ℕ). one_at x y ≡ 1) (sym last) (one_here x) in omega (arith, one_at_above x n (omega arith)))
     (λ (before : x < n). let other : one_at x n ≡ 0 = one_elsewhere x n (omega arith) in omega (arith, one_below x n before)) (last_or_before x n below)
 
+-- with the weight 1 for each, the sum is how many there are
 weigh_each : (xs : List ℕ) → weigh (λ _. 1) xs ≡ length xs
 weigh_each [] = refl
 weigh_each (x ∷ xs) = omega (arith, weigh_each xs)
@@ -48,6 +50,7 @@ below_each zero = refl
 below_each (suc n) = omega (arith, below_each n)
 
 module _ {J : Type 0} where
+  -- the sum over all hands after one hand, v, is replaced by w
   total_set : (f : Hand J → ℕ) (views : List (Hand J)) (port : ℕ) (v w : Hand J) → get_elem? views port ≡ some v → total f (set views port w) + f v ≡ total f views + f w
   total_set f [] port v w at = absurd (some-ne-none v (sym at))
   total_set f (x ∷ xs) zero v w at = let same : x ≡ v = cc in let also : f x ≡ f v = ap f same in omega arith
@@ -57,6 +60,7 @@ module _ {J : Type 0} where
   total_snoc f [] v = omega arith
   total_snoc f (x ∷ xs) v = omega (arith, total_snoc f xs v)
 
+  -- one hand has no more than all have
   le_total : (f : Hand J → ℕ) (views : List (Hand J)) (port : ℕ) (v : Hand J) → get_elem? views port ≡ some v → f v ≤ total f views
   le_total f [] port v at = absurd (some-ne-none v (sym at))
   le_total f (x ∷ xs) zero v at = let same : x ≡ v = cc in let also : f x ≡ f v = ap f same in omega arith
@@ -70,6 +74,7 @@ module _ {J : Type 0} where
   two_within_total f (x ∷ xs) (suc i) zero v u apart at at' = let same : x ≡ u = cc in let also : f x ≡ f u = ap f same in omega (arith, le_total f xs i v at)
   two_within_total f (x ∷ xs) (suc i) (suc j) v u apart at at' = omega (arith, two_within_total f xs i j v u (λ e. apart (ap suc e)) at at')
 
+  -- if each hand has nothing, all have nothing
   total_none : (f : Hand J → ℕ) (views : List (Hand J)) → ((j : ℕ) (u : Hand J) → get_elem? views j ≡ some u → f u ≡ 0) → total f views ≡ 0
   total_none f [] none = refl
   total_none f (x ∷ xs) none = let here : f x ≡ 0 = none 0 x refl in omega (arith, total_none f xs (λ j u e. none (suc j) u e))
@@ -80,6 +85,7 @@ module _ {J : Type 0} where
   total_of_only f (x ∷ xs) zero v at others = let same : x ≡ v = cc in let also : f x ≡ f v = ap f same in omega (arith, total_none f xs (λ j u e. others (suc j) u (omega arith) e))
   total_of_only f (x ∷ xs) (suc port) v at others = let here : f x ≡ 0 = others 0 x (omega arith) refl in omega (arith, total_of_only f xs port v at (λ j u other e. others (suc j) u (λ same. other (omega arith)) e))
 
+  -- each hand knows the jobs after one is replaced by w, if w and the others do
   knows_set : (jobs : List J) (views : List (Hand J)) (port : ℕ) (w : Hand J) → KnowsJobs jobs w → ((j : ℕ) (u : Hand J) → j ≢ port → get_elem? views j ≡ some u → KnowsJobs jobs u)
       → (j : ℕ) (u : Hand J) → get_elem? (set views port w) j ≡ some u → KnowsJobs jobs u
   knows_set jobs views port w mine others j u e = ⊎_elim (λ (x : (j ≡ port) × (w ≡ u)). subst (KnowsJobs jobs) x.1 mine)
@@ -90,6 +96,7 @@ module _ {J : Type 0} where
       → (j : ℕ) (u : Hand J) → j ≢ port → get_elem? views j ≡ some u → u.parts ≡ 0
   others_have_none items views port v h all at j u other e = let p = two_within_total (λ x. x.parts) views port j v u (λ same. other (sym same)) at e in let q = h.whole in omega arith
 
+  -- at first the one hand knows that no job was dealt
   starts_knowing : (j : ℕ) (u : Hand J) → get_elem? (hand 8 [] [] ∷ []) j ≡ some u → KnowsJobs [] u
   starts_knowing zero u e = let is : hand 8 [] [] ≡ u = cc in subst (KnowsJobs []) is (record { dealt = λ _. refl; idle = λ _. refl })
   starts_knowing (suc j) u e = absurd (some-ne-none u (sym e))
@@ -119,9 +126,11 @@ module _ {J : Type 0} where
   abbrev AreAt : List J → List (Numbered J) → Type 0
   AreAt jobs items = All (λ item. IsJobAt jobs item.index item.job) items
 
+  -- items are the jobs with their numbers also if more jobs are dealt
   each_more : (jobs more : List J) (items : List (Numbered J)) → AreAt jobs items → AreAt (jobs ++ more) items
   each_more jobs more items each k d within = job_at_more jobs more _ _ (each k d within)
 
+  -- if all items are the jobs with their numbers, so are the first ones, and those after them
   each_of : (jobs : List J) (xs ys : List (Numbered J)) → AreAt jobs (xs ++ ys) → AreAt jobs xs × AreAt jobs ys
   each_of jobs [] ys each = (λ k d none. absurd (omega arith), each)
   each_of jobs (x ∷ xs) ys each =

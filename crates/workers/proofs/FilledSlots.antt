@@ -25,23 +25,12 @@ module _ {J : Type 0} where
       let within = took.within in
       omega (arith, length-append v.taken (x.index ∷ []))
 
--- a loop has these `left` items to go, and a vector with `len` items and this capacity has memory
--- reserved for `left` more
-pub record IsReserved {A : Type 0} (items : List A) (left len capacity : ℕ) : Type 0 where
-  pub count : left ≡ length items
-  pub room : len + left ≤ capacity
-
-module _ {A : Type 0} (items rest : List A) (next : A) (left len capacity : ℕ) (split : items ≡ next ∷ rest) (was : IsReserved items left len capacity) where
-  pub next_fits : len < capacity
-  next_fits = omega (arith, was.count, was.room, ap length split)
-
-  pub rest_is_reserved : (fewer more same : ℕ) → fewer + 1 ≡ left → more ≡ len + 1 → same ≡ capacity → IsReserved rest fewer more same
-  rest_is_reserved fewer more same gone added kept = record { count = omega (arith, was.count, ap length split, gone); room = omega (arith, was.room, gone, added, kept) }
-
 module _ {D : Type 0} where
+  -- the next of a thief's outcomes is of a job below n, if all are
   pub ran_within : (n : ℕ) (ran rest : List (Taken D)) (t : Taken D) → ran ≡ t ∷ rest → All (λ x. x.index < n) ran → t.index < n
   ran_within n ran rest t is all = let now : All (λ (x : Taken D). x.index < n) (t ∷ rest) = subst (All (λ (x : Taken D). x.index < n)) is all in now 0 t (omega arith)
 
+  -- the outcomes after the next one are of jobs below m, if all are of jobs below n, which is m
   pub ran_later : (n m : ℕ) (ran rest : List (Taken D)) (t : Taken D) → ran ≡ t ∷ rest → m ≡ n → All (λ x. x.index < n) ran → All (λ x. x.index < m) rest
   ran_later n m ran rest t is same all =
       let now : All (λ (x : Taken D). x.index < n) (t ∷ rest) = subst (All (λ (x : Taken D). x.index < n)) is all in
@@ -59,6 +48,7 @@ module _ {D : Type 0} where
       ∙ ap (λ (l : List (Option D)). l ++ rest) (sym (map-append Some all (done ∷ [])) ∙ ap (map Some) (sym added))
 
 module _ {J D : Type 0} (ends : J → D → Type 0) where
+  -- empty slots are right while no job is taken
   pub vacant_slots : (n : ℕ) (jobs : List J) → AreSlots ends n [] jobs (replicate (length jobs) None)
   vacant_slots n [] = tt
   vacant_slots n (job ∷ jobs) = (refl, vacant_slots (suc n) jobs)
@@ -90,12 +80,14 @@ module _ {J D : Type 0} (ends : J → D → Type 0) where
   slot_more n taken job None k other is = omega (arith, weigh-append (one_at n) taken (k ∷ []), one_elsewhere n k other)
   slot_more n taken job (Some o) k other is = is
 
+  -- slots stay right if a job before them is taken
   slots_more : (n : ℕ) (taken : List ℕ) (jobs : List J) (slots : List (Option D)) (k : ℕ) → k < n → AreSlots ends n taken jobs slots → AreSlots ends n (taken ++ k ∷ []) jobs slots
   slots_more n taken [] [] k before s = tt
   slots_more n taken (job ∷ jobs) (slot ∷ slots) k before s = (slot_more n taken job slot k (omega arith) s.0, slots_more (suc n) taken jobs slots k (omega arith) s.1)
   slots_more n taken [] (slot ∷ slots) k before s = absurd s
   slots_more n taken (job ∷ jobs) [] k before s = absurd s
 
+  -- slots stay right if job k is taken, and its outcome put into the slot i of those from n on
   slots_put_from : (n : ℕ) (taken : List ℕ) (jobs : List J) (slots : List (Option D)) (i k : ℕ) (o : D) → k ≡ n + i → AreSlots ends n taken jobs slots → IsOutcomeAt ends jobs i o
       → AreSlots ends n (taken ++ k ∷ []) jobs (set slots i (Some o))
   slots_put_from n taken [] slots i k o is s at = absurd at
@@ -103,10 +95,12 @@ module _ {J D : Type 0} (ends : J → D → Type 0) where
   slots_put_from n taken (job ∷ jobs) (slot ∷ slots) zero k o is s at = (at, slots_more (suc n) taken jobs slots k (omega arith) s.1)
   slots_put_from n taken (job ∷ jobs) (slot ∷ slots) (suc i) k o is s at = (slot_more n taken job slot k (omega arith) s.0, slots_put_from (suc n) taken jobs slots i k o (omega arith) s.1 at)
 
+  -- the same for the slots of all jobs
   pub slots_put : (taken : List ℕ) (jobs : List J) (slots : List (Option D)) (i : ℕ) (o : D) → AreSlots ends 0 taken jobs slots → IsOutcomeAt ends jobs i o
       → AreSlots ends 0 (taken ++ i ∷ []) jobs (set slots i (Some o))
   slots_put taken jobs slots i o s at = slots_put_from 0 taken jobs slots i i o (omega arith) s at
 
+  -- slots stay right if a thief's jobs are taken, and each of its outcomes is put into its slot
   pub slots_put_all : (taken : List ℕ) (jobs : List J) (slots : List (Option D)) (ran : List (Taken D)) → AreSlots ends 0 taken jobs slots → All (λ t. IsOutcomeAt ends jobs t.index t.done) ran
       → AreSlots ends 0 (taken ++ map (λ t. t.index) ran) jobs (with_all slots ran)
   slots_put_all taken jobs slots [] s at = subst (λ (xs : List ℕ). AreSlots ends 0 xs jobs slots) (sym (append-nil taken)) s
@@ -115,6 +109,7 @@ module _ {J D : Type 0} (ends : J → D → Type 0) where
       let rest = slots_put_all (taken ++ t.index ∷ []) jobs (set slots t.index (Some t.done)) ts first (All-tail (λ (x : Taken D). IsOutcomeAt ends jobs x.index x.done) t ts at) in
       subst (λ (xs : List ℕ). AreSlots ends 0 xs jobs (with_all (set slots t.index (Some t.done)) ts)) (append_assoc taken (t.index ∷ []) (map (λ (x : Taken D). x.index) ts)) rest
 
+  -- the slots of the jobs from n on are full if each of these jobs was taken once
   slots_full_from : (n : ℕ) (taken : List ℕ) (jobs : List J) (slots : List (Option D)) → AreSlots ends n taken jobs slots → ((i : ℕ) → n ≤ i → i < n + length jobs → weigh (one_at i) taken ≡ 1) → AreFull ends jobs slots
   slots_full_from n taken [] [] s all = tt
   slots_full_from n taken [] (slot ∷ slots) s all = absurd s
@@ -128,6 +123,7 @@ module _ {J D : Type 0} (ends : J → D → Type 0) where
       let count : length v.jobs ≡ length jobs = ap length h.known in
       slots_full_from 0 v.taken jobs slots h.slotted (λ i from to. all whole (one_at i) ∙ one_below i (length v.jobs) (omega arith))
 
+  -- a full slot isn't empty
   pub full_is_some : (jobs : List J) (slots : List (Option D)) → AreFull ends jobs slots → All IsSome slots
   full_is_some [] [] full = λ k d none. absurd (omega arith)
   full_is_some [] (slot ∷ slots) full = absurd full
@@ -223,19 +219,3 @@ module _ {J K R : Type 0} (named : J → K) (gives : J → R → Type 0) where
   full_outcomes [] (done ∷ all) full = absurd full
   full_outcomes (job ∷ jobs) [] full = absurd full
   full_outcomes (job ∷ jobs) (done ∷ all) full = (full.0, full_outcomes jobs all full.1)
-
-  -- `all`, with an outcome for each of the jobs `left`, are the outcomes of all jobs
-  abbrev pub AreOutcomesSoFar : List J → List J → List (Done K R) → Type 0
-  AreOutcomesSoFar jobs left all = (later : List (Done K R)) → OneForEach named gives left later → OneForEach named gives jobs (all ++ later)
-
-  -- `AreOutcomesSoFar` still holds when the outcome of the next job is added
-  pub one_more_outcome : (jobs items left : List J) (job : J) (all more : List (Done K R)) (done : Done K R) → items ≡ job ∷ left → IsDoneOf named gives job done → more ≡ all ++ done ∷ [] → AreOutcomesSoFar jobs items all → AreOutcomesSoFar jobs left more
-  one_more_outcome jobs items left job all more done split of added goes later rest =
-      let on : OneForEach named gives jobs (all ++ done ∷ later) = goes (done ∷ later) (subst (λ (js : List J). OneForEach named gives js (done ∷ later)) (sym split) (of, rest)) in
-      subst (λ (l : List (Done K R)). OneForEach named gives jobs (l ++ later)) (sym added)
-      (subst (λ (l : List (Done K R)). OneForEach named gives jobs l) (sym (append_assoc all (done ∷ []) later)) on)
-
-  -- once no job is left, the outcomes are those of all jobs
-  pub outcomes_of_all : (jobs items : List J) (n : ℕ) (all : List (Done K R)) → n ≡ length items → n ≡ 0 → AreOutcomesSoFar jobs items all → OneForEach named gives jobs all
-  outcomes_of_all jobs [] n all len none goes = subst (λ (l : List (Done K R)). OneForEach named gives jobs l) (append-nil all) (goes [] tt)
-  outcomes_of_all jobs (job ∷ items) n all len none goes = absurd (omega arith)

@@ -1,2 +1,4 @@
 pub mod DequeRule
 pub mod FilledSlots
+pub mod ReservedRoom
+pub mod OutcomesSoFar

@@ -24,13 +24,13 @@ use std::thread::Threads;
 pub struct Crew;
 
 /// What the caller works with: its end of the deque, and a slot for the outcome of each job.
-type Bench<J, D> = (Owner<J>, Slots<D>);
+type Workplace<J, D> = (Owner<J>, Slots<D>);
 
 /// A new deque with these jobs, in order, and an empty slot for each.
-fn deal<J: Drop, D: Drop>(alloc: Global, jobs: Vec<J>) -> Result<Bench<J, D>, AllocError>
-    ensures { IfOk result (λ bench. (worker_flavor bench.0 ≡ 0)
-        × (worker_view bench.0 ≡ hand 8 jobs.items [])
-        × (bench.1.items ≡ replicate (length jobs.items) None)) }
+fn deal<J: Drop, D: Drop>(alloc: Global, jobs: Vec<J>) -> Result<Workplace<J, D>, AllocError>
+    ensures { IfOk result (λ workplace. (worker_flavor workplace.0 ≡ 0)
+        × (worker_view workplace.0 ≡ hand 8 jobs.items [])
+        × (workplace.1.items ≡ replicate (length jobs.items) None)) }
 {
     let mut slots = Vec::with_capacity(alloc, jobs.len())?;
     let mut owner = Owner::fifo_as(alloc, jobs.len())?;
@@ -50,17 +50,17 @@ fn work<W: Wait, J: Runnable + Drop, G: Gate<W>>(
     rt: &W,
     alloc: Global,
     gate: &G,
-    bench: Bench<J, Done<J::Key, J::Run>>,
-) -> Bench<J, Done<J::Key, J::Run>>
-    requires fifo { worker_flavor bench.0 ≡ 0 }
-    requires ready { IsAtWork (IsDoneOf J.named J.gives) (worker_view bench.0).jobs
-        (worker_view bench.0) bench.1.items }
-    ensures same { SameOwner bench.0 result.0 }
-    ensures done { IsAtWork (IsDoneOf J.named J.gives) (worker_view bench.0).jobs
+    workplace: Workplace<J, Done<J::Key, J::Run>>,
+) -> Workplace<J, Done<J::Key, J::Run>>
+    requires fifo { worker_flavor workplace.0 ≡ 0 }
+    requires ready { IsAtWork (IsDoneOf J.named J.gives) (worker_view workplace.0).jobs
+        (worker_view workplace.0) workplace.1.items }
+    ensures same { SameOwner workplace.0 result.0 }
+    ensures done { IsAtWork (IsDoneOf J.named J.gives) (worker_view workplace.0).jobs
         (worker_view result.0) result.1.items }
     ensures all { HasAllJobs (worker_view result.0) }
 {
-    let (mut owner, mut slots) = bench;
+    let (mut owner, mut slots) = workplace;
     while let Some(taken) = owner.pop_as::<Pops>() {
         let Numbered { index, job } = taken;
         let done = run_job(rt, alloc, gate, index, job);
@@ -79,20 +79,20 @@ fn share<R: Threads + Wait + Sync, J: Runnable + Send + Drop, G: Gate<R> + Sync>
     alloc: Global,
     gate: &G,
     thieves: u32,
-    bench: Bench<J, Done<J::Key, J::Run>>,
-) -> Bench<J, Done<J::Key, J::Run>>
+    workplace: Workplace<J, Done<J::Key, J::Run>>,
+) -> Workplace<J, Done<J::Key, J::Run>>
 where
     J::Key: Send,
     J::Run: Send,
-    requires fifo { worker_flavor bench.0 ≡ 0 }
-    requires parts { thieves < (worker_view bench.0).parts }
-    requires ready { IsAtWork (IsDoneOf J.named J.gives) (worker_view bench.0).jobs
-        (worker_view bench.0) bench.1.items }
-    ensures same { SameOwner bench.0 result.0 }
-    ensures done { IsAtWork (IsDoneOf J.named J.gives) (worker_view bench.0).jobs
+    requires fifo { worker_flavor workplace.0 ≡ 0 }
+    requires parts { thieves < (worker_view workplace.0).parts }
+    requires ready { IsAtWork (IsDoneOf J.named J.gives) (worker_view workplace.0).jobs
+        (worker_view workplace.0) workplace.1.items }
+    ensures same { SameOwner workplace.0 result.0 }
+    ensures done { IsAtWork (IsDoneOf J.named J.gives) (worker_view workplace.0).jobs
         (worker_view result.0) result.1.items }
 {
-    let (mut owner, slots) = bench;
+    let (mut owner, slots) = workplace;
     if thieves == 0 {
         return work(rt, alloc, gate, (owner, slots));
     }
@@ -163,9 +163,9 @@ impl Crew {
     {
         let count = jobs.len();
         let all = Vec::with_capacity(alloc, count)?;
-        let bench = deal(alloc, jobs)?;
-        let bench = share(rt, alloc, gate, needed(thieves, count), bench);
-        let (_, slots) = work(rt, alloc, gate, bench);
+        let workplace = deal(alloc, jobs)?;
+        let workplace = share(rt, alloc, gate, needed(thieves, count), workplace);
+        let (_, slots) = work(rt, alloc, gate, workplace);
         Ok(into_outcomes(slots, all))
     }
 }

@@ -104,7 +104,7 @@ impl<J> Join<Hand<J>> for ComesBack {
 pub(crate) type Owner<J> = Worker<Numbered<J>, Global, Hand<J>, Dealt>;
 
 /// A thief's end of the deque, from which the thief steals jobs.
-pub(crate) type Other<J> = Stealer<Numbered<J>, Global, Hand<J>, Dealt>;
+pub(crate) type ThiefEnd<J> = Stealer<Numbered<J>, Global, Hand<J>, Dealt>;
 
 /// A thief's pass: the right to steal, and (in contracts alone) what the pass knows of the deque.
-pub(crate) type Part<J> = Pass<Numbered<J>, Hand<J>>;
+pub(crate) type ThiefPass<J> = Pass<Numbered<J>, Hand<J>>;

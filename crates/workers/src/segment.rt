@@ -1,7 +1,7 @@
 //! The jobs of a chart's plan (segments to replay), as jobs that a crew can run.
 
 use crate::job;
-use checkpoints::run::{Run, run_of_all};
+use checkpoints::run::{Run, run_of_owned};
 use cutoff::plan::Job;
 use frames::register::Register;
 use schedule_trie::trie::SegKey;
@@ -30,7 +30,7 @@ impl<R: Register> job::Runnable for Job<R> {
             entry,
             steps,
         } = self;
-        let run = run_of_all(alloc, entry, steps.into_vec())?;
+        let run = run_of_owned(alloc, entry, steps.into_vec())?;
         Ok(Arc::new(alloc, run)?)
     }
 }

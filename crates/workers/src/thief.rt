@@ -7,7 +7,7 @@ ghost use Rattle.workers.specs.Outcomes.{IsDoneOf};
 ghost use Rattle.workers.specs.Slots.{HasRunItsJobs};
 
 use crate::gate::Gate;
-use crate::hand::{Hires, Numbered, Other, Owner, Part, Steals};
+use crate::hand::{Hires, Numbered, Owner, Steals, ThiefEnd, ThiefPass};
 use crate::job::{Done, Runnable, run_job};
 use crossbeam_deque::Steal;
 use std::alloc::{AllocError, Global};
@@ -24,8 +24,8 @@ pub(crate) struct Taken<D> {
 /// of the jobs that it has run.
 #[derive(Drop)]
 pub(crate) struct Thief<J, D> {
-    pub deque: Other<J>,
-    pub pass: Part<J>,
+    pub deque: ThiefEnd<J>,
+    pub pass: ThiefPass<J>,
     pub ran: Vec<Taken<D>>,
 }
 

@@ -35,6 +35,7 @@ module _ {P : Type 0} (b : Behaviour P) (running run : List (Option (Running P))
     pub mark : slice_index_or stopped k false ≡ slice_index_or stop k false
     pub outcomes : slice_index_or answers k [] ≡ slice_index_or given k []
 
+  -- the numbers for `count` processes determine what each of them has
   same_processes : (count p : ℕ) (r s : List ℕ) → processes_numbers b running stopped answers count p ++ r ≡ processes_numbers b run stop given count p ++ s
       → (k : ℕ) → p ≤ k → k < p + count → IsSameAt k
   same_processes zero p r s h k le lt = absurd (omega (arith, le, lt))
@@ -52,6 +53,7 @@ module _ {P : Type 0} (b : Behaviour P) (running run : List (Option (Running P))
 
 module _ {R P : Type 0} (b : Behaviour P) (Holds : Memory → Type 0) (Reaches : ℕ → Op → P → Type 0) (lawful : IsLawful b Holds Reaches) (r : R) where
   module _ (point : ℕ → List Frame → Option P) (reports : FramesGivePoint b Reaches point) (E : R → R → Bool) (e : IsEquivalence E) where
+    -- states of register r with the same bytes are equal
     same_by_bytes : (x y : StateOf R P) → IsStateOf b Holds Reaches r x → IsStateOf b Holds Reaches r y → state_bytes b x ≡ state_bytes b y → SameState E x y
     same_by_bytes x y kx ky h =
         let cells = x.configuration.memory.cells in
@@ -82,18 +84,21 @@ module _ {R P : Type 0} (b : Behaviour P) (Holds : Memory → Type 0) (Reaches :
           };
         }
 
+    -- equal states have the same bytes
     bytes_alike : (x y : StateOf R P) → SameState E x y → state_bytes b x ≡ state_bytes b y
     bytes_alike x y same =
         let c = same.configuration in
         λ i. packed (state_numbers b (c.memory i) (c.running i) (c.stopped i) (same.answers i))
 
     module _ (F : P → P → Bool) (d : (p q : P) → Decides (F p q) (p ≡ q)) where
+      -- bytes of states are equal exactly if the states are
       same_bytes : (x y : StateOf R P) → IsStateOf b Holds Reaches r x → IsStateOf b Holds Reaches r y
           → bytes_eq (state_bytes b x) (state_bytes b y) ≡ state_eq E F x y
       same_bytes x y kx ky =
           let bytes = bytes_eq-Decides (state_bytes b x) (state_bytes b y) in
           same_from_decides _ _ ((λ h. same_by_bytes x y kx ky (bytes.0 h)), (λ same. bytes.1 (bytes_alike x y same))) (state_decides E F d x y)
 
+  -- `holds_after_move` of register r, by whether the step fits and is enabled; and by the step
   by_test : (x y : StateOf R P) (s : Step) (t u : Bool) → IsStateOf b Holds Reaches r x → fits_step b s ≡ t → (if t && u then Some (advanced b x s) else None) ≡ Some y
       → IsStateOf b Holds Reaches r y
   by_test x y s true true k fits h =

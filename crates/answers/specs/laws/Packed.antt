@@ -22,9 +22,11 @@ cons_parts h = (cc, cc)
 same_by_256 : (n m : ℕ) → n % 256 ≡ m % 256 → n / 256 ≡ m / 256 → n ≡ m
 same_by_256 n m a b = omega (arith, a, b)
 
+-- numbers with equal lower and upper halves are equal
 same_by_halves : (n m : ℕ) → n % 4294967296 ≡ m % 4294967296 → n / 4294967296 ≡ m / 4294967296 → n ≡ m
 same_by_halves n m a b = omega (arith, a, b)
 
+-- four bytes determine half a number, and eight a number, whatever follows them
 same_half : (n m : ℕ) (r s : List ℕ) → half_bytes n ++ r ≡ half_bytes m ++ s → (n ≡ m) × (r ≡ s)
 same_half n m r s h =
     let a = cons_parts h in
@@ -44,6 +46,7 @@ same_halves n m r s h =
 abbrev bytes_by : Bool → Bool → ℕ → List ℕ
 bytes_by t u n = if t then n ∷ [] else if u then (192 + n / 256) ∷ n % 256 ∷ [] else 255 ∷ half_bytes (n % 4294967296) ++ half_bytes (n / 4294967296)
 
+-- the bytes of a number determine it, whatever follows them; first by how many bytes there are
 same_by_tests : (t u v w : Bool) (n m : ℕ) (r s : List ℕ) → nat_lt n 192 ≡ t → nat_lt n 16128 ≡ u → nat_lt m 192 ≡ v → nat_lt m 16128 ≡ w
     → bytes_by t u n ++ r ≡ bytes_by v w m ++ s → (n ≡ m) × (r ≡ s)
 same_by_tests true u true w n m r s a b c d h = cons_parts h
@@ -63,6 +66,7 @@ same_by_tests false false false false n m r s a b c d h = same_halves n m r s (c
 same_number : (n m : ℕ) (r s : List ℕ) → number_bytes n ++ r ≡ number_bytes m ++ s → (n ≡ m) × (r ≡ s)
 same_number n m r s h = same_by_tests (nat_lt n 192) (nat_lt n 16128) (nat_lt m 192) (nat_lt m 16128) n m r s refl refl refl refl h
 
+-- a list with an item isn't empty, and so a number has bytes
 cons_is_not_nil : {X : Type 0} {x : X} {xs : List X} → x ∷ xs ≡ [] → ⊥
 cons_is_not_nil {X} {x} {xs} h = let e : length (x ∷ xs) ≡ 0 = ap length h in omega (arith, e)
 
@@ -71,6 +75,7 @@ bytes_are_not_nil true u n r h = cons_is_not_nil h
 bytes_are_not_nil false true n r h = cons_is_not_nil h
 bytes_are_not_nil false false n r h = cons_is_not_nil h
 
+-- numbers with the same bytes are the same
 pub same_packed : (ns ms : List ℕ) → packed ns ≡ packed ms → ns ≡ ms
 same_packed [] [] h = refl
 same_packed [] (m ∷ ms) h = absurd (bytes_are_not_nil (nat_lt m 192) (nat_lt m 16128) m (packed ms) (sym h))
@@ -82,6 +87,7 @@ zero_past_zeros : (n : ℕ) (xs : List ℕ) → replicate (suc n) 0 ++ xs ≡ re
 zero_past_zeros zero xs = refl
 zero_past_zeros (suc n) xs = ap (λ l. 0 ∷ l) (zero_past_zeros n xs)
 
+-- `zero_past_zeros`, with `+ 1` for `suc`
 zeros_before : (n : ℕ) (xs : List ℕ) → replicate (n + 1) 0 ++ xs ≡ replicate n 0 ++ 0 ∷ xs
 zeros_before n xs = ap (λ k. replicate k 0 ++ xs) (add-one n) ∙ zero_past_zeros n xs
 
@@ -93,34 +99,38 @@ gaps_by t u n x xs = if t then by_gaps (n + 1) xs else if u then 2 * n ∷ by_ga
 abbrev AreSame : List ℕ → List ℕ → ℕ → ℕ → List ℕ → List ℕ → Type 0
 AreSame xs ys n m r s = (replicate n 0 ++ xs ≡ replicate m 0 ++ ys) × (r ≡ s)
 
+-- a first item that is 0 is one more zero before the others
 more_zeros_right : (xs ys : List ℕ) (y n m : ℕ) (r s : List ℕ) → y ≡ 0 → AreSame xs ys n (m + 1) r s → AreSame xs (y ∷ ys) n m r s
 more_zeros_right xs ys y n m r s e h = (h.0 ∙ (zeros_before m ys ∙ (λ i. replicate m 0 ++ sym e i ∷ ys)), h.1)
 
 more_zeros_left : (xs ys : List ℕ) (x n m : ℕ) (r s : List ℕ) → x ≡ 0 → AreSame xs ys (n + 1) m r s → AreSame (x ∷ xs) ys n m r s
 more_zeros_left xs ys x n m r s e h = ((λ i. replicate n 0 ++ e i ∷ xs) ∙ (sym (zeros_before n xs) ∙ h.0), h.1)
 
+-- what the tests of `by_gaps` show
 zero_by_test : (x : ℕ) → (x == 0) ≡ true → x ≡ 0
 zero_by_test x h = (Decides-eqb x 0).0 h
 
 one_by_test : (x : ℕ) → (x == 1) ≡ true → x ≡ 1
 one_by_test x h = (Decides-eqb x 1).0 h
 
--- if the numbers for n zeros and for m zeros before ys are the same, the lists are
-gaps_none : (ys : List ℕ) (n m : ℕ) (r s : List ℕ) → n ≡ m + length ys → 2 * n ∷ r ≡ by_gaps m ys ++ s → AreSame [] ys n m r s
-gaps_none [] n m r s len h = let p = cons_parts h in let e : n ≡ m = omega (arith, p.0) in ((λ i. replicate (e i) 0 ++ []), p.1)
-gaps_none (y ∷ ys) n m r s len h = by (y == 0) (y == 1) refl h (λ k g. gaps_none ys n (m + 1) r s k g)
+-- if the numbers for two lists are the same, the lists are: `same_gaps`, if the first has n zeros
+-- alone
+same_gaps_nil : (ys : List ℕ) (n m : ℕ) (r s : List ℕ) → n ≡ m + length ys → 2 * n ∷ r ≡ by_gaps m ys ++ s → AreSame [] ys n m r s
+same_gaps_nil [] n m r s len h = let p = cons_parts h in let e : n ≡ m = omega (arith, p.0) in ((λ i. replicate (e i) 0 ++ []), p.1)
+same_gaps_nil (y ∷ ys) n m r s len h = by (y == 0) (y == 1) refl h (λ k g. same_gaps_nil ys n (m + 1) r s k g)
   where
+    -- by whether y is 0, so that it is a zero more before ys, or 1, or greater
     by : (t u : Bool) → (y == 0) ≡ t → 2 * n ∷ r ≡ gaps_by t u m y ys ++ s
         → (n ≡ m + 1 + length ys → 2 * n ∷ r ≡ by_gaps (m + 1) ys ++ s → AreSame [] ys n (m + 1) r s) → AreSame [] (y ∷ ys) n m r s
     by true u e g later = more_zeros_right [] ys y n m r s (zero_by_test y e) (later (omega (arith, len)) g)
     by false true e g later = let p = cons_parts g in absurd (omega (arith, p.0, len))
     by false false e g later = let p = cons_parts g in absurd (omega (arith, p.0, len))
 
--- if the numbers for two lists are the same, the lists are: a list that begins with a 1, and any ys
-gaps_one : (x : ℕ) (xs : List ℕ) → x ≡ 1 → ((ys : List ℕ) (n m : ℕ) (r s : List ℕ) → n + length xs ≡ m + length ys → by_gaps n xs ++ r ≡ by_gaps m ys ++ s → AreSame xs ys n m r s)
+-- `same_gaps`, if the first list has a 1 after n zeros
+same_gaps_one : (x : ℕ) (xs : List ℕ) → x ≡ 1 → ((ys : List ℕ) (n m : ℕ) (r s : List ℕ) → n + length xs ≡ m + length ys → by_gaps n xs ++ r ≡ by_gaps m ys ++ s → AreSame xs ys n m r s)
     → (ys : List ℕ) (n m : ℕ) (r s : List ℕ) → n + length (x ∷ xs) ≡ m + length ys → gaps_by false true n x xs ++ r ≡ by_gaps m ys ++ s → AreSame (x ∷ xs) ys n m r s
-gaps_one x xs is rest [] n m r s len h = let p = cons_parts h in absurd (omega (arith, p.0, len))
-gaps_one x xs is rest (y ∷ ys) n m r s len h = by (y == 0) (y == 1) refl refl h (λ k g. gaps_one x xs is rest ys n (m + 1) r s k g)
+same_gaps_one x xs is rest [] n m r s len h = let p = cons_parts h in absurd (omega (arith, p.0, len))
+same_gaps_one x xs is rest (y ∷ ys) n m r s len h = by (y == 0) (y == 1) refl refl h (λ k g. same_gaps_one x xs is rest ys n (m + 1) r s k g)
   where
     by : (t u : Bool) → (y == 0) ≡ t → (y == 1) ≡ u → gaps_by false true n x xs ++ r ≡ gaps_by t u m y ys ++ s
         → (n + length (x ∷ xs) ≡ m + 1 + length ys → gaps_by false true n x xs ++ r ≡ by_gaps (m + 1) ys ++ s → AreSame (x ∷ xs) ys n (m + 1) r s)
@@ -133,12 +143,11 @@ gaps_one x xs is rest (y ∷ ys) n m r s len h = by (y == 0) (y == 1) refl refl 
         ((λ i. replicate (k i) 0 ++ (is ∙ sym (one_by_test y f)) i ∷ q.0 i), q.1)
     by false false e f g later = let p = cons_parts g in absurd (omega (arith, p.0))
 
--- if the numbers for two lists are the same, the lists are: one that begins with 2 or more, and any
--- ys
-gaps_greater : (x : ℕ) (xs : List ℕ) → ((ys : List ℕ) (n m : ℕ) (r s : List ℕ) → n + length xs ≡ m + length ys → by_gaps n xs ++ r ≡ by_gaps m ys ++ s → AreSame xs ys n m r s)
+-- `same_gaps`, if the first list has 2 or more after n zeros
+same_gaps_greater : (x : ℕ) (xs : List ℕ) → ((ys : List ℕ) (n m : ℕ) (r s : List ℕ) → n + length xs ≡ m + length ys → by_gaps n xs ++ r ≡ by_gaps m ys ++ s → AreSame xs ys n m r s)
     → (ys : List ℕ) (n m : ℕ) (r s : List ℕ) → n + length (x ∷ xs) ≡ m + length ys → gaps_by false false n x xs ++ r ≡ by_gaps m ys ++ s → AreSame (x ∷ xs) ys n m r s
-gaps_greater x xs rest [] n m r s len h = let p = cons_parts h in absurd (omega (arith, p.0, len))
-gaps_greater x xs rest (y ∷ ys) n m r s len h = by (y == 0) (y == 1) refl h (λ k g. gaps_greater x xs rest ys n (m + 1) r s k g)
+same_gaps_greater x xs rest [] n m r s len h = let p = cons_parts h in absurd (omega (arith, p.0, len))
+same_gaps_greater x xs rest (y ∷ ys) n m r s len h = by (y == 0) (y == 1) refl h (λ k g. same_gaps_greater x xs rest ys n (m + 1) r s k g)
   where
     by : (t u : Bool) → (y == 0) ≡ t → gaps_by false false n x xs ++ r ≡ gaps_by t u m y ys ++ s
         → (n + length (x ∷ xs) ≡ m + 1 + length ys → gaps_by false false n x xs ++ r ≡ by_gaps (m + 1) ys ++ s → AreSame (x ∷ xs) ys n (m + 1) r s)
@@ -152,17 +161,20 @@ gaps_greater x xs rest (y ∷ ys) n m r s len h = by (y == 0) (y == 1) refl h (�
         let q = rest ys 0 0 r s (omega (arith, len, k)) d.1 in
         ((λ i. replicate (k i) 0 ++ d.0 i ∷ q.0 i), q.1)
 
+-- if the numbers for n zeros and then xs, and for m zeros and then ys, are the same, the lists are,
+-- whatever follows
 same_gaps : (xs ys : List ℕ) (n m : ℕ) (r s : List ℕ) → n + length xs ≡ m + length ys → by_gaps n xs ++ r ≡ by_gaps m ys ++ s → AreSame xs ys n m r s
-same_gaps [] ys n m r s len h = gaps_none ys n m r s (omega (arith, len)) h
+same_gaps [] ys n m r s len h = same_gaps_nil ys n m r s (omega (arith, len)) h
 same_gaps (x ∷ xs) ys n m r s len h = by (x == 0) (x == 1) refl refl h (λ zs k l t u. same_gaps xs zs k l t u)
   where
     by : (t u : Bool) → (x == 0) ≡ t → (x == 1) ≡ u → gaps_by t u n x xs ++ r ≡ by_gaps m ys ++ s
         → ((zs : List ℕ) (k l : ℕ) (t u : List ℕ) → k + length xs ≡ l + length zs → by_gaps k xs ++ t ≡ by_gaps l zs ++ u → AreSame xs zs k l t u)
         → AreSame (x ∷ xs) ys n m r s
     by true u e f g rest = more_zeros_left xs ys x n m r s (zero_by_test x e) (rest ys (n + 1) m r s (omega (arith, len)) g)
-    by false true e f g rest = gaps_one x xs (one_by_test x f) rest ys n m r s len g
-    by false false e f g rest = gaps_greater x xs rest ys n m r s len g
+    by false true e f g rest = same_gaps_one x xs (one_by_test x f) rest ys n m r s len g
+    by false false e f g rest = same_gaps_greater x xs rest ys n m r s len g
 
+-- lists with the same numbers, and as long, are the same, whatever follows
 pub same_list : (xs ys r s : List ℕ) → length xs ≡ length ys → by_gaps 0 xs ++ r ≡ by_gaps 0 ys ++ s → (xs ≡ ys) × (r ≡ s)
 same_list xs ys r s len h = same_gaps xs ys 0 0 r s (ap (λ n. 0 + n) len) h
 
@@ -190,6 +202,7 @@ by_three_bits A a b c d e f g h true false true = f
 by_three_bits A a b c d e f g h true true false = g
 by_three_bits A a b c d e f g h true true true = h
 
+-- each cell's number gives the cell again: by the value that is being written, then by the others
 decoded_by : (w : Option Bool) (v r h : Bool) → IsDecoded (record { value = v; writing = w; reading = r; hit = h })
 decoded_by None = by_three_bits (λ v r h. IsDecoded (record { value = v; writing = None; reading = r; hit = h })) refl refl refl refl refl refl refl refl
 decoded_by (Some false) = by_three_bits (λ v r h. IsDecoded (record { value = v; writing = Some false; reading = r; hit = h })) refl refl refl refl refl refl refl refl
@@ -198,6 +211,7 @@ decoded_by (Some true) = by_three_bits (λ v r h. IsDecoded (record { value = v;
 decoded : (c : Cell) → IsDecoded c
 decoded c = decoded_by c.writing c.value c.reading c.hit
 
+-- cells with the same numbers are the same
 pub same_cells : (xs ys : List Cell) → map cell_code xs ≡ map cell_code ys → xs ≡ ys
 same_cells [] [] h = refl
 same_cells [] (y ∷ ys) h = cc
@@ -214,6 +228,7 @@ same_op op.Read (op.Write w) h = absurd (omega (arith, h))
 same_op (op.Write v) op.Read h = absurd (omega (arith, h))
 same_op (op.Write v) (op.Write w) h = let e : v ≡ w = omega (arith, h) in ap op.Write e
 
+-- a layer's number is below 8, the factor of the operation's
 layer_low : (a : FrameLayer) → layer_code a < 8
 layer_low layers.Safe = omega arith
 layer_low layers.Copies = omega arith
@@ -224,6 +239,7 @@ layer_low layers.MatrixRead = omega arith
 layer_low layers.MatrixWrite = omega arith
 layer_low (layers.Named n) = omega arith
 
+-- layers with the same numbers and letters are the same
 same_layer : (a b : FrameLayer) (r s : List ℕ) → layer_code a ≡ layer_code b → name_numbers a ++ r ≡ name_numbers b ++ s → (a ≡ b) × (r ≡ s)
 same_layer layers.Safe layers.Safe r s e h = (refl, h)
 same_layer layers.Copies layers.Copies r s e h = (refl, h)
@@ -239,6 +255,7 @@ same_layer (layers.Named a) (layers.Named b) r s e h =
     ((λ i. layers.Named (record { 0 = p.0 i; 1 = q.0 i; 2 = t.0 i })), t.1)
 same_layer _ _ r s e h = absurd (omega (arith, e))
 
+-- frames with the same numbers are the same
 same_frame : (f g : Frame) (r s : List ℕ) → frame_numbers f ++ r ≡ frame_numbers g ++ s → (f ≡ g) × (r ≡ s)
 same_frame f g r s h =
     let p = cons_parts h in
@@ -252,6 +269,7 @@ same_frame f g r s h =
     let l = same_layer f.layer g.layer r s codes t.1 in
     ((λ i. record { layer = l.0 i; op = same_op f.op g.op ops i; i = q.0 i; x = t.0 i }), l.1)
 
+-- stacks that are as long and have the same numbers are the same
 same_frames : (fs gs : List Frame) (r s : List ℕ) → length fs ≡ length gs → frames_numbers fs ++ r ≡ frames_numbers gs ++ s → (fs ≡ gs) × (r ≡ s)
 same_frames [] [] r s len h = (refl, h)
 same_frames [] (g ∷ gs) r s len h = absurd (omega (arith, len))
@@ -281,13 +299,14 @@ same_outcome (Value v) (Spent spent.Stamped) h = absurd (omega (arith, h))
 same_outcome (Value v) (Spent spent.Matrix) h = absurd (omega (arith, h))
 same_outcome (Value v) (Value w) h = let e : v ≡ w = omega (arith, h) in ap Value e
 
-same_codes : (os us : List Outcome) (r s : List ℕ) → length os ≡ length us → map outcome_code os ++ r ≡ map outcome_code us ++ s → (os ≡ us) × (r ≡ s)
-same_codes [] [] r s len h = (refl, h)
-same_codes [] (u ∷ us) r s len h = absurd (omega (arith, len))
-same_codes (o ∷ os) [] r s len h = absurd (omega (arith, len))
-same_codes (o ∷ os) (u ∷ us) r s len h =
+-- lists of outcomes that are as long and have the same numbers are the same
+same_outcomes : (os us : List Outcome) (r s : List ℕ) → length os ≡ length us → map outcome_code os ++ r ≡ map outcome_code us ++ s → (os ≡ us) × (r ≡ s)
+same_outcomes [] [] r s len h = (refl, h)
+same_outcomes [] (u ∷ us) r s len h = absurd (omega (arith, len))
+same_outcomes (o ∷ os) [] r s len h = absurd (omega (arith, len))
+same_outcomes (o ∷ os) (u ∷ us) r s len h =
     let p = cons_parts h in
-    let q = same_codes os us r s (omega (arith, len)) p.1 in
+    let q = same_outcomes os us r s (omega (arith, len)) p.1 in
     ((λ i. same_outcome o u p.0 i ∷ q.0 i), q.1)
 
 -- a number for a stack's length and a stop mark determines both
@@ -297,6 +316,7 @@ same_stop true false n m h = absurd (omega (arith, h))
 same_stop false true n m h = absurd (omega (arith, h))
 same_stop false false n m h = (omega (arith, h), refl)
 
+-- a process's numbers determine its frames, its stop mark and its outcomes
 pub same_process : (fs gs : List Frame) (t u : Bool) (os us : List Outcome) (r s : List ℕ)
     → (stack_numbers fs t ++ outcomes_numbers os) ++ r ≡ (stack_numbers gs u ++ outcomes_numbers us) ++ s
     → ((fs ≡ gs) × (t ≡ u)) × ((os ≡ us) × (r ≡ s))
@@ -306,4 +326,4 @@ same_process fs gs t u os us r s h =
     let f = same_frames fs gs (outcomes_numbers os ++ r) (outcomes_numbers us ++ s) e.0
     (sym (append_assoc (frames_numbers fs) (outcomes_numbers os) r) ∙ (p.1 ∙ append_assoc (frames_numbers gs) (outcomes_numbers us) s)) in
     let q = cons_parts f.1 in
-    ((f.0, e.1), same_codes os us r s q.0 q.1)
+    ((f.0, e.1), same_outcomes os us r s q.0 q.1)

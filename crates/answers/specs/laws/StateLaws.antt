@@ -18,16 +18,17 @@ use Rattle.frames.specs.declared.types.Outcome.TheVariants.{Value, Written, Spen
 use Rattle.frames.specs.declared.types.Step.{Step}
 use Rattle.frames.specs.Behaviour.{Behaviour}
 use Rattle.frames.specs.Configuration.{Configuration, fits_step, is_enabled, stepped}
-use Rattle.frames.specs.Recorded.{Alone}
+use Rattle.frames.specs.Recorded.{LoneConfiguration, without_register}
 use Rattle.frames.specs.Equality.{configuration_eq, configuration_per, configuration_decides, SameConfiguration}
 use Rattle.std.proofs.lemmas.Bool.Decides.{Decides-eqb}
 use Rattle.answers.specs.declared.question.Question.{Question}
-use Rattle.answers.specs.States.{StateOf, moved, moved_if, advanced, step_by, configuration_alone}
+use Rattle.answers.specs.States.{StateOf, moved, moved_if, advanced, step_by}
 
 -- whether two outcomes are equal
 abbrev pub outcome_eq : Outcome → Outcome → Bool
 outcome_eq = outcomes.eq-value.it
 
+-- the derived `==` of layers and of outcomes decides equality
 layer_decides : (a b : Layer) → Decides (layers.eq-value.it a b) (a ≡ b)
 layer_decides Stamped Stamped = (λ h. refl, λ h. refl)
 layer_decides Matrix Matrix = (λ h. refl, λ h. refl)
@@ -62,7 +63,7 @@ pub record SameState {R P : Type 0} (E : R → R → Bool) (a b : StateOf R P) :
   pub configuration : SameConfiguration E a.configuration b.configuration
 
 -- a step acts alike without the register
-stepped_alone : {R P : Type 0} (b : Behaviour P) (c : Configuration R P) (s : Step) → configuration_alone (stepped b c s) ≡ stepped b (configuration_alone c) s
+stepped_alone : {R P : Type 0} (b : Behaviour P) (c : Configuration R P) (s : Step) → without_register (stepped b c s) ≡ stepped b (without_register c) s
 stepped_alone b c s = refl
 
 module _ {R P : Type 0} (E : R → R → Bool) (F : P → P → Bool) where
@@ -90,12 +91,13 @@ module _ {R P : Type 0} (E : R → R → Bool) (F : P → P → Bool) where
     state_equivalence e = equiv (state_per (partial_equiv_from_equiv e)) (λ a. (state_decides a a).1 (same_itself e a))
 
     -- equal configurations without their registers are the same
-    same_alone : {x y : Configuration R P} → SameConfiguration E x y → configuration_alone x ≡ configuration_alone y
+    same_alone : {x y : Configuration R P} → SameConfiguration E x y → without_register x ≡ without_register y
     same_alone e i = record { register = tt; memory = e.memory i; running = e.running i; stopped = e.stopped i }
 
+    -- equal configurations, and then states, are equal after the same step
     stepped_same : (b : Behaviour P) (a c : Configuration R P) (s : Step) → SameConfiguration E a c → SameConfiguration E (stepped b a s) (stepped b c s)
     stepped_same b a c s e =
-        let both : configuration_alone (stepped b a s) ≡ configuration_alone (stepped b c s) = stepped_alone b a s ∙ (ap (λ (n : Alone P). stepped b n s) (same_alone e) ∙ sym (stepped_alone b c s)) in
+        let both : without_register (stepped b a s) ≡ without_register (stepped b c s) = stepped_alone b a s ∙ (ap (λ (n : LoneConfiguration P). stepped b n s) (same_alone e) ∙ sym (stepped_alone b c s)) in
         record { register = e.register; memory = ap (λ n. n.memory) both; running = ap (λ n. n.running) both; stopped = ap (λ n. n.stopped) both }
 
     advanced_same : (b : Behaviour P) (x y : StateOf R P) (s : Step) → SameState E x y → SameState E (advanced b x s) (advanced b y s)
@@ -104,11 +106,13 @@ module _ {R P : Type 0} (E : R → R → Bool) (F : P → P → Bool) where
       configuration = stepped_same b x.configuration y.configuration s e.configuration;
     }
 
+    -- the same steps fit equal states and are enabled
     enabled_same : (b : Behaviour P) (x y : StateOf R P) (s : Step) → SameState E x y
         → (fits_step b s && is_enabled x.configuration s) ≡ (fits_step b s && is_enabled y.configuration s)
     enabled_same b x y s e i = fits_step b s && is_enabled (same_alone e.configuration i) s
 
     module _ (is : R → Behaviour P) (alike : (r s : R) → E r s ≡ true → is r ≡ is s) where
+      -- `moved_alike`, by whether the step fits and is enabled; and by the step
       by_test : (b : Behaviour P) (x y : StateOf R P) (s : Step) (t : Bool) (z : StateOf R P) → SameState E x y
           → (if t then Some (advanced b x s) else None) ≡ Some z
           → (w : StateOf R P) × (((if t then Some (advanced b y s) else None) ≡ Some w) × (state_eq z w ≡ true))

@@ -78,6 +78,7 @@ struct Early {
     own: [Command; 6],
 }
 
+/// The commands to give with a guard that fails; `zed` is the name of no branch.
 fn early_commands(main: &Name, zed: &Name) -> Early {
     Early {
         open: open_commands(main, zed),
@@ -89,13 +90,13 @@ fn early_commands(main: &Name, zed: &Name) -> Early {
 fn full_rows(early: &Early) -> [Ask<'_>; 8] {
     [
         Ask::Replies(Command::Join, Reply::Joined),
-        Ask::Logs(1),
+        Ask::HasLogged(1),
         Ask::Refuses(Command::Join, Refusal::LogFull),
         Ask::RefusesEach(16, &early.open, Refusal::LogFull),
         Ask::RefusesEach(16, &early.own, Refusal::LogFull),
         Ask::RefusesEach(5, &early.open, Refusal::LogFull),
         Ask::RefusesEach(5, &early.own, Refusal::LogFull),
-        Ask::Logs(1),
+        Ask::HasLogged(1),
     ]
 }
 
@@ -125,6 +126,8 @@ struct Late {
     others: [(Command, Refusal); 13],
 }
 
+/// The commands that are refused late; `zed` is the name of no branch, `new` that of a branch to be
+/// forked, and `bad` no name of a new branch.
 fn late_commands(main: &Name, zed: &Name, new: &Name, bad: &Name) -> Late {
     let others = [
         (insert(zed, 9, BAD), Refusal::BadStep),
@@ -155,6 +158,7 @@ struct Refused {
     late: Late,
 }
 
+/// Rows for each reason, from the earliest to the latest.
 fn rows_in_order(refused: &Refused) -> [Ask<'_>; 11] {
     [
         Ask::Replies(Command::Join, Reply::Joined),
@@ -167,7 +171,7 @@ fn rows_in_order(refused: &Refused) -> [Ask<'_>; 11] {
         Ask::RefusesUnguarded(&refused.late.missing_branch, Refusal::NoBranch),
         Ask::RefusesUnguarded(&refused.late.missing_place, Refusal::NoPlace),
         Ask::RefusesAll(&refused.late.others),
-        Ask::Logs(61),
+        Ask::HasLogged(61),
     ]
 }
 

@@ -39,7 +39,7 @@ fn drop_rows(main: &Name, a: &Name, b: &Name) -> [Ask<'static>; 9] {
         Ask::Replies(Command::Leave, Reply::Left),
         Ask::Replies(drop_branch(a), Reply::Edited(2)),
         Ask::Refuses(remove(a, 0), Refusal::NoBranch),
-        Ask::Counts(2),
+        Ask::HasEdits(2),
     ]
 }
 
@@ -91,6 +91,7 @@ fn seeks(rt: HostRuntime) {
     );
 }
 
+/// The query for the verdicts at a place of a branch.
 fn verdict(branch: &Name, place: u32) -> Query {
     Query::Verdict {
         b: *branch,
@@ -102,11 +103,11 @@ fn verdict(branch: &Name, place: u32) -> Query {
 fn look_rows(main: &Name, zed: &Name) -> [Ask<'static>; 7] {
     let state = Query::State { b: *zed, k: 7 };
     [
-        Ask::Hides(Query::Cursor { who: 16 }, Refusal::NoSession),
-        Ask::Hides(Query::Cursor { who: 0 }, Refusal::NoSession),
-        Ask::Hides(state, Refusal::NoBranch),
-        Ask::Hides(verdict(main, 7), Refusal::NoPlace),
-        Ask::Hides(Query::Steps { b: *zed }, Refusal::NoBranch),
+        Ask::RefusesLook(Query::Cursor { who: 16 }, Refusal::NoSession),
+        Ask::RefusesLook(Query::Cursor { who: 0 }, Refusal::NoSession),
+        Ask::RefusesLook(state, Refusal::NoBranch),
+        Ask::RefusesLook(verdict(main, 7), Refusal::NoPlace),
+        Ask::RefusesLook(Query::Steps { b: *zed }, Refusal::NoBranch),
         Ask::Shows(
             verdict(main, 6),
             b"0: verdict main 6 of 6\n  5 p1 0 fresh\n",

@@ -5,7 +5,7 @@ ghost use Rattle.schedule_trie.specs.Trie.{AreLimits};
 ghost use Rattle.schedule_trie.specs.Limbs.{AreLawfulLimbs};
 ghost use Rattle.branch_terms.specs.declared.limits.TheConstants.{MOST_CELLS_MADE};
 
-use crate::given::{Branch, Change, Edit, GO, GO_CHOICE_1, READ, make_edits};
+use crate::given::{Branch, BranchEdit, Change, GO, GO_CHOICE_1, READ, make_edits};
 use frames::types::Step;
 use schedule_trie::limb::Limb;
 use schedule_trie::limits::Limits;
@@ -26,7 +26,7 @@ type Row = (&'static [u8], u32, u32, &'static [Step]);
 
 /// Edits of a trie that has a read and a write on `main`. They make `a`, which shares the first
 /// cell of `main`, and `b`, which shares both cells of `a`.
-const THREE_BRANCHES: [Edit; 4] = [
+const THREE_BRANCHES: [BranchEdit; 4] = [
     (Branch::Main, Change::Fork(1, Branch::A)),
     (Branch::A, Change::Insert(1, GO)),
     (Branch::A, Change::Fork(2, Branch::B)),
@@ -53,6 +53,7 @@ const DROPPED: [Row; 2] = [
     (b"b", 0, 1, &[WRITE_0, GO, GO_CHOICE_1]),
 ];
 
+/// Limits that allow these numbers of cells and of branches.
 fn limits(cells: u32, branches: u32) -> Limits
     requires cells { 0 < cells × cells ≤ MOST_CELLS_MADE }
     requires branches { 0 < branches × branches ≤ 1024 }
@@ -70,7 +71,7 @@ fn limbs_after(
     rt: &impl Abort,
     alloc: Global,
     trie: &mut Trie<u32>,
-    edits: &[Edit],
+    edits: &[BranchEdit],
 ) -> Result<Vec<Limb>, Refusal>
     ensures lawful { IfOk result (λ r. AreLawfulLimbs r.items) }
     ensures some { IfOk result (λ r. 0 < length r.items) }
@@ -80,7 +81,7 @@ fn limbs_after(
 }
 
 /// Makes edits of a trie that has a read and a write on `main`, and returns its limbs.
-fn limbs_of(rt: &impl Abort, alloc: Global, edits: &[Edit]) -> Result<Vec<Limb>, Refusal>
+fn limbs_of(rt: &impl Abort, alloc: Global, edits: &[BranchEdit]) -> Result<Vec<Limb>, Refusal>
     ensures lawful { IfOk result (λ r. AreLawfulLimbs r.items) }
     ensures some { IfOk result (λ r. 0 < length r.items) }
 {
@@ -94,7 +95,7 @@ fn limbs_again(
     alloc: Global,
     limits: Limits,
     limbs: &[Limb],
-    edits: &[Edit],
+    edits: &[BranchEdit],
 ) -> Result<Vec<Limb>, Refusal>
     requires limits { AreLimits limits }
     requires lawful { AreLawfulLimbs limbs.now }
@@ -104,6 +105,7 @@ fn limbs_again(
     limbs_after(rt, alloc, &mut trie, edits)
 }
 
+/// Whether a limb is that of the row.
 fn is_row(limb: &Limb, row: &Row) -> bool {
     let (name, from, shared, steps) = *row;
     limb.name.as_bytes() == name

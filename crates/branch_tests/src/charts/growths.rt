@@ -2,7 +2,8 @@
 //! result that it would have had with enough memory, except that it doesn't replay segments
 //! whose runs were stored before memory ran out.
 
-use super::rows::{Ask, Kind, LATE, Row, Wanted, first_wrong_with, step_of, writes};
+use super::rows::{Ask, LATE, Row, Wanted, first_wrong_with};
+use super::steps::{Kind, step_of, writes};
 use crate::given::{Branch, none_wrong};
 use std::alloc::Global;
 use std::process::Abort;
@@ -25,13 +26,14 @@ fn late_run_out_of_memory(rt: HostRuntime) {
 const SETTLES: [Row; 6] = [
     (Branch::Main, Ask::Settle(1000, 0, 1000)),
     (Branch::Main, Ask::Replace(10, Kind::Go1)),
-    (Branch::Main, Ask::Left(1)),
+    (Branch::Main, Ask::JobsLeft(1)),
     (Branch::Main, Ask::Settle(1000, 0, 128)),
     (Branch::Main, Ask::Settle(1000, 0, 0)),
-    (Branch::Main, Ask::Left(0)),
+    (Branch::Main, Ask::JobsLeft(0)),
 ];
 
-fn settles_again(rt: &impl Abort, alloc: Global, wanted: Wanted) {
+/// Fails if a row of `SETTLES` goes wrong; passes if there is no memory for the steps.
+fn check_settles(rt: &impl Abort, alloc: Global, wanted: Wanted) {
     let Ok(steps) = writes(alloc) else {
         return;
     };
@@ -43,10 +45,10 @@ fn settles_again(rt: &impl Abort, alloc: Global, wanted: Wanted) {
 
 #[test]
 fn thousand_steps_out_of_memory(rt: HostRuntime) {
-    settles_again(&rt, rt.alloc(), Wanted::All);
+    check_settles(&rt, rt.alloc(), Wanted::All);
 }
 
 #[test]
 fn last_run_of_thousand_steps_out_of_memory(rt: HostRuntime) {
-    settles_again(&rt, rt.alloc(), Wanted::Last);
+    check_settles(&rt, rt.alloc(), Wanted::Last);
 }

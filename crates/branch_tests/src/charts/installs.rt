@@ -4,10 +4,10 @@ ghost use Rattle.std.specs.Prelude.{◌≡◌, true};
 ghost use Rattle.frames.specs.Configuration.{fits_step};
 ghost use Rattle.frames.specs.SafeBit.{safe_behaviour};
 
-use super::rows::{Kind, limits, step_of};
 use super::single::{
     KeyedRun, edit, first_run, fork_with, install, jobs_of, keep, settle, state_text,
 };
+use super::steps::{Kind, limits, step_of};
 use crate::given::{Branch, name_of, none_wrong};
 use checkpoints::run::Run;
 use cutoff::chart::Chart;
@@ -52,12 +52,13 @@ struct OldRun {
 
 /// A chart, its expected segments, and all runs that were made of its jobs.
 #[derive(Drop)]
-struct Shelf {
+struct TestedChart {
     chart: Chart<Safe>,
     segments: Segments,
     runs: Vec<OldRun>,
 }
 
+/// A write of 1 or of 0.
 fn write_of(is_one: bool) -> Step
     ensures { fits_step safe_behaviour result ≡ true }
 {
@@ -161,15 +162,15 @@ fn own_segment(
 /// write's segment; `None` if the branch's job isn't of the write alone.
 fn forked(
     alloc: Global,
-    shelf: &mut Shelf,
+    tested: &mut TestedChart,
     main: &Name,
     branch: &Name,
     is_one: bool,
 ) -> Result<Option<OwnSegment>, Refusal> {
     let write = write_of(is_one);
-    fork_with(alloc, &mut shelf.chart, main, *branch, write)?;
-    match first_run_of(alloc, &shelf.chart, branch, write)? {
-        Some(made) => Ok(Some(own_segment(&mut shelf.runs, is_one, made)?)),
+    fork_with(alloc, &mut tested.chart, main, *branch, write)?;
+    match first_run_of(alloc, &tested.chart, branch, write)? {
+        Some(made) => Ok(Some(own_segment(&mut tested.runs, is_one, made)?)),
         None => Ok(None),
     }
 }
@@ -207,21 +208,23 @@ enum Ask {
 fn forks(
     rt: &impl Abort,
     alloc: Global,
-    shelf: &mut Shelf,
+    tested: &mut TestedChart,
     is_a: bool,
     is_one: bool,
 ) -> Result<bool, Refusal> {
     let main = name_of(rt, alloc, Branch::Main);
     let branch = branch_of(rt, alloc, is_a);
-    let segment = forked(alloc, shelf, &main, &branch, is_one)?;
-    set_segment(&mut shelf.segments, is_a, segment);
+    let segment = forked(alloc, tested, &main, &branch, is_one)?;
+    set_segment(&mut tested.segments, is_a, segment);
     Ok(segment.is_some())
 }
 
+/// The name of `a` or of `b`.
 fn branch_of(rt: &impl Abort, alloc: Global, is_a: bool) -> Name {
     name_of(rt, alloc, if is_a { Branch::A } else { Branch::B })
 }
 
+/// Sets the expected segment of `a` or of `b`.
 fn set_segment(segments: &mut Segments, is_a: bool, segment: Option<OwnSegment>) {
     if is_a {
         segments.a = segment;
@@ -231,39 +234,49 @@ fn set_segment(segments: &mut Segments, is_a: bool, segment: Option<OwnSegment>)
 }
 
 /// Whether the page of `a`'s or `b`'s state has the expected text.
-fn shows(rt: &impl Abort, alloc: Global, shelf: &mut Shelf, is_a: bool) -> Result<bool, Refusal> {
+fn shows(
+    rt: &impl Abort,
+    alloc: Global,
+    tested: &mut TestedChart,
+    is_a: bool,
+) -> Result<bool, Refusal> {
     let segment = if is_a {
-        shelf.segments.a
+        tested.segments.a
     } else {
-        shelf.segments.b
+        tested.segments.b
     };
     let Some(segment) = segment else {
         return Ok(false);
     };
-    let text = state_text(alloc, &mut shelf.chart, branch_of(rt, alloc, is_a), 2)?;
+    let text = state_text(alloc, &mut tested.chart, branch_of(rt, alloc, is_a), 2)?;
     Ok(text.as_slice() == state_of(is_a, segment.is_one))
 }
 
 /// Drops `a` or `b`.
-fn drops(rt: &impl Abort, alloc: Global, shelf: &mut Shelf, is_a: bool) -> Result<(), Refusal> {
+fn drops(
+    rt: &impl Abort,
+    alloc: Global,
+    tested: &mut TestedChart,
+    is_a: bool,
+) -> Result<(), Refusal> {
     let branch = branch_of(rt, alloc, is_a);
-    edit(alloc, &mut shelf.chart, &Edit::Drop(&branch))?;
-    set_segment(&mut shelf.segments, is_a, None);
+    edit(alloc, &mut tested.chart, &Edit::Drop(&branch))?;
+    set_segment(&mut tested.segments, is_a, None);
     Ok(())
 }
 
 /// Replaces the read by itself.
-fn unsettles(alloc: Global, shelf: &mut Shelf, main: &Name) -> Result<(), Refusal> {
+fn unsettles(alloc: Global, tested: &mut TestedChart, main: &Name) -> Result<(), Refusal> {
     let read = Edit::Replace(main, 0, step_of(Kind::Read));
-    edit(alloc, &mut shelf.chart, &read)?;
-    shelf.segments.is_settled = false;
+    edit(alloc, &mut tested.chart, &read)?;
+    tested.segments.is_settled = false;
     Ok(())
 }
 
 /// Stores a run at the read.
-fn settles(alloc: Global, shelf: &mut Shelf, main: &Name) -> Result<(), Refusal> {
-    settle(alloc, &mut shelf.chart, main, 1)?;
-    shelf.segments.is_settled = true;
+fn settles(alloc: Global, tested: &mut TestedChart, main: &Name) -> Result<(), Refusal> {
+    settle(alloc, &mut tested.chart, main, 1)?;
+    tested.segments.is_settled = true;
     Ok(())
 }
 
@@ -271,16 +284,16 @@ fn settles(alloc: Global, shelf: &mut Shelf, main: &Name) -> Result<(), Refusal>
 fn is_expected(
     rt: &impl Abort,
     alloc: Global,
-    shelf: &mut Shelf,
+    tested: &mut TestedChart,
     ask: Ask,
 ) -> Result<bool, Refusal> {
     let main = name_of(rt, alloc, Branch::Main);
     match ask {
-        Ask::Forks(is_a, is_one) => return forks(rt, alloc, shelf, is_a, is_one),
-        Ask::Shows(is_a) => return shows(rt, alloc, shelf, is_a),
-        Ask::Drops(is_a) => drops(rt, alloc, shelf, is_a)?,
-        Ask::Unsettles => unsettles(alloc, shelf, &main)?,
-        Ask::Settles => settles(alloc, shelf, &main)?,
+        Ask::Forks(is_a, is_one) => return forks(rt, alloc, tested, is_a, is_one),
+        Ask::Shows(is_a) => return shows(rt, alloc, tested, is_a),
+        Ask::Drops(is_a) => drops(rt, alloc, tested, is_a)?,
+        Ask::Unsettles => unsettles(alloc, tested, &main)?,
+        Ask::Settles => settles(alloc, tested, &main)?,
     }
     Ok(true)
 }
@@ -290,13 +303,13 @@ fn is_expected(
 fn is_expected_with_installs(
     rt: &impl Abort,
     alloc: Global,
-    shelf: &mut Shelf,
+    tested: &mut TestedChart,
     ask: Ask,
 ) -> Result<bool, Refusal> {
-    if !is_expected(rt, alloc, shelf, ask)? {
+    if !is_expected(rt, alloc, tested, ask)? {
         return Ok(false);
     }
-    all_install_as_expected(&mut shelf.chart, shelf.segments, &shelf.runs)
+    all_install_as_expected(&mut tested.chart, tested.segments, &tested.runs)
 }
 
 /// The index of the first of `asks` that has a wrong result, or after which the install of an old
@@ -304,11 +317,11 @@ fn is_expected_with_installs(
 fn first_wrong(
     rt: &impl Abort,
     alloc: Global,
-    shelf: &mut Shelf,
+    tested: &mut TestedChart,
     asks: &[Ask],
 ) -> Result<Option<usize>, Refusal> {
     for (i, ask) in asks.iter().enumerate() {
-        if !is_expected_with_installs(rt, alloc, shelf, *ask)? {
+        if !is_expected_with_installs(rt, alloc, tested, *ask)? {
             return Ok(Some(i));
         }
     }
@@ -330,14 +343,14 @@ fn key_of(jobs: &[Job<Safe>]) -> Option<SegKey> {
 }
 
 /// A chart of one read, without runs. Its shared segment isn't known yet.
-fn shelf_of(alloc: Global) -> Result<Shelf, Refusal> {
+fn new_tested_chart(alloc: Global) -> Result<TestedChart, Refusal> {
     let segments = Segments {
         shared: 0,
         is_settled: false,
         a: None,
         b: None,
     };
-    Ok(Shelf {
+    Ok(TestedChart {
         chart: Chart::new(alloc, Safe, 0, limits(), &[step_of(Kind::Read)])?,
         segments,
         runs: Vec::new(alloc),
@@ -349,15 +362,15 @@ fn shelf_of(alloc: Global) -> Result<Shelf, Refusal> {
 fn first_wrong_from(
     rt: &impl Abort,
     alloc: Global,
-    shelf: &mut Shelf,
+    tested: &mut TestedChart,
     asks: &[Ask],
 ) -> Result<Option<usize>, Refusal> {
     let main = name_of(rt, alloc, Branch::Main);
-    let Some(shared) = first_key(alloc, &shelf.chart, &main)? else {
+    let Some(shared) = first_key(alloc, &tested.chart, &main)? else {
         return Ok(Some(0));
     };
-    shelf.segments.shared = shared;
-    first_wrong(rt, alloc, shelf, asks)
+    tested.segments.shared = shared;
+    first_wrong(rt, alloc, tested, asks)
 }
 
 /// What `first_wrong_from` returns for a new chart. The chart's owner makes only this call, so that
@@ -367,12 +380,14 @@ fn first_wrong_in_new_chart(
     alloc: Global,
     asks: &[Ask],
 ) -> Result<Option<usize>, Refusal> {
-    let mut shelf = shelf_of(alloc)?;
-    first_wrong_from(rt, alloc, &mut shelf, asks)
+    let mut tested = new_tested_chart(alloc)?;
+    first_wrong_from(rt, alloc, &mut tested, asks)
 }
 
+/// The branch `a`, in an `Ask`.
 const A: bool = true;
 
+/// The branch `b`, in an `Ask`.
 const B: bool = false;
 
 /// The branches `a` and `b` are dropped and forked again in turn, with the same write and with the

@@ -1,10 +1,10 @@
 //! Row `late-run`: a branch's page is the same right before and after the install of a run that is
 //! too late; then a run that fits is installed.
 
-use super::rows::{Kind, limits, step_of};
 use super::single::{
     KeyedRun, edit, fork_with, installs_first, jobs_of, keeps_only, settle, state_text,
 };
+use super::steps::{Kind, limits, step_of};
 use crate::given::{name, none_wrong};
 use cutoff::chart::Chart;
 use frames::safe::Safe;

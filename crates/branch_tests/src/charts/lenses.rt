@@ -5,8 +5,9 @@ ghost use Rattle.std.specs.Prelude.{◌≡◌, ◌<◌, true};
 ghost use Rattle.views.specs.Looks.{is_at_branch};
 
 use super::counting::Counting;
-use super::rows::{Kind, chart_of, step_of, writes};
+use super::rows::chart_of;
 use super::single::{edit, new_lens, slip_of, text_of, text_once_through, text_through};
+use super::steps::{Kind, step_of, writes};
 use crate::given::{name, none_wrong};
 use cutoff::chart::Chart;
 use schedule_trie::edit::Edit;
@@ -72,26 +73,26 @@ fn steps_once<'a>(
 
 /// A chart of the 1,000 steps of `writes` on `main`, on a register that counts its calls.
 #[derive(Drop)]
-struct Counted<'a> {
+struct CountedChart<'a> {
     alloc: Global,
     calls: &'a AtomicU64,
     main: Name,
     chart: Chart<Counting<'a>>,
 }
 
-impl<'a> Counted<'a> {
+impl<'a> CountedChart<'a> {
     /// A chart of these steps, from an initial value.
     fn new(
         rt: &impl Abort,
         alloc: Global,
         calls: &'a AtomicU64,
         value: u32,
-    ) -> Result<Counted<'a>, Refusal>
+    ) -> Result<CountedChart<'a>, Refusal>
         requires { value < 2 }
     {
         let main = name(rt, b"main");
         let steps = writes(alloc).expect(rt, "memory");
-        Ok(Counted {
+        Ok(CountedChart {
             alloc,
             calls,
             main,
@@ -186,7 +187,7 @@ impl<'a> Counted<'a> {
 /// that goes wrong.
 fn first_wrong(rt: &impl Abort, alloc: Global, places: u32) -> Result<Option<usize>, Refusal> {
     let calls = AtomicU64::new(0);
-    let mut chart = Counted::new(rt, alloc, &calls, 0)?;
+    let mut chart = CountedChart::new(rt, alloc, &calls, 0)?;
     let mut lens = new_lens(rt, alloc);
     chart.first_wrong_place(&mut lens, places)
 }
@@ -205,8 +206,8 @@ fn three_hundred_places_up_and_down(rt: HostRuntime) {
 /// Two charts of the same steps, a lens that they share, and a lens of the second chart alone.
 #[derive(Drop)]
 struct TwoCharts<'a> {
-    zero: Counted<'a>,
-    one: Counted<'a>,
+    zero: CountedChart<'a>,
+    one: CountedChart<'a>,
     shared: CountingLens<'a>,
     own: CountingLens<'a>,
 }
@@ -215,8 +216,8 @@ impl<'a> TwoCharts<'a> {
     /// Two charts, from the initial values 0 and 1. Their registers have equal numbers of cells and
     /// words.
     fn new(rt: &impl Abort, alloc: Global, calls: &'a AtomicU64) -> Result<TwoCharts<'a>, Refusal> {
-        let zero = Counted::new(rt, alloc, calls, 0)?;
-        let one = Counted::new(rt, alloc, calls, 1)?;
+        let zero = CountedChart::new(rt, alloc, calls, 0)?;
+        let one = CountedChart::new(rt, alloc, calls, 1)?;
         Ok(TwoCharts {
             zero,
             one,
@@ -276,7 +277,7 @@ fn query_of(kind: u32, branch: Name, place: u32) -> Query
     }
 }
 
-impl<'a> Counted<'a> {
+impl<'a> CountedChart<'a> {
     /// Whether each kind of page of a place is the same through `lens` as through a new lens.
     fn are_all_same(&mut self, lens: &mut CountingLens<'a>, place: u32) -> Result<bool, Refusal> {
         for kind in 0..KINDS {
@@ -319,10 +320,10 @@ impl<'a> Counted<'a> {
     }
 }
 
-/// What `Counted::first_wrong_of_all_kinds` finds with one lens.
+/// What `CountedChart::first_wrong_of_all_kinds` finds with one lens.
 fn first_wrong_of_all_kinds(rt: &impl Abort, alloc: Global) -> Result<Option<usize>, Refusal> {
     let calls = AtomicU64::new(0);
-    let mut chart = Counted::new(rt, alloc, &calls, 0)?;
+    let mut chart = CountedChart::new(rt, alloc, &calls, 0)?;
     let mut lens = new_lens(rt, alloc);
     chart.first_wrong_of_all_kinds(&mut lens)
 }
@@ -336,7 +337,7 @@ fn forty_places_of_each_kind(rt: HostRuntime) {
 const LAST_STATE: &[u8] =
     b"0: state main 1000 of 1000\n  p0 write 0 next ws 0\n  p1 idle\n  bits 1\n  words -\n";
 
-impl<'a> Counted<'a> {
+impl<'a> CountedChart<'a> {
     /// Whether the page of the state after all 1,000 steps has the text `LAST_STATE`.
     fn shows_the_last_state(&mut self, lens: &mut CountingLens<'a>) -> Result<bool, Refusal> {
         Ok(self.state_text(lens, 1000)?.as_slice() == LAST_STATE)
@@ -363,10 +364,10 @@ impl<'a> Counted<'a> {
     }
 }
 
-/// What `Counted::first_wrong_after_an_edit` finds.
+/// What `CountedChart::first_wrong_after_an_edit` finds.
 fn first_wrong_after_an_edit(rt: &impl Abort, alloc: Global) -> Result<Option<usize>, Refusal> {
     let calls = AtomicU64::new(0);
-    let mut chart = Counted::new(rt, alloc, &calls, 0)?;
+    let mut chart = CountedChart::new(rt, alloc, &calls, 0)?;
     let mut lens = new_lens(rt, alloc);
     let mut new = new_lens(rt, alloc);
     chart.first_wrong_after_an_edit(&mut lens, &mut new)

@@ -1,79 +1,23 @@
 //! Tests of how many steps a settle replays, and that no other call of a chart makes a step. The
 //! calls are data, so that only one function makes a chart.
 
-ghost use Rattle.std.specs.Prelude.{◌≡◌, ◌<◌, true, IfOk};
-ghost use Rattle.frames.specs.Configuration.{fits_step};
+ghost use Rattle.std.specs.Prelude.{◌<◌};
 ghost use Rattle.frames.specs.SafeBit.{safe_behaviour};
 ghost use Rattle.frames.specs.Recorded.{AllFit};
-ghost use Rattle.schedule_trie.specs.Trie.{AreLimits};
 
 use super::counting::Counting;
 use super::single::{KeyedRun, edit, fork, installs_first, is_of, jobs_of, keeps_only, settle};
+use super::steps::{Kind, limits, step_of, writes};
 use crate::given::{Branch, name, name_of, none_wrong};
 use cutoff::chart::Chart;
 use cutoff::plan::Job;
 use frames::types::Step;
 use schedule_trie::edit::Edit;
-use schedule_trie::limits::Limits;
 use schedule_trie::name::Name;
 use schedule_trie::refusal::Refusal;
-use std::alloc::{AllocError, Global};
+use std::alloc::Global;
 use std::process::Abort;
 use std::sync::atomic::{AtomicU64, Ordering};
-
-/// A step of a safe bit.
-#[derive(Clone, Copy)]
-pub(super) enum Kind {
-    Read,
-    Write0,
-    Write1,
-    Go0,
-    Go1,
-}
-
-pub(super) fn step_of(kind: Kind) -> Step
-    ensures { fits_step safe_behaviour result ≡ true }
-{
-    match kind {
-        Kind::Read => Step::Read { p: 1 },
-        Kind::Write0 => Step::Write { p: 0, v: 0 },
-        Kind::Write1 => Step::Write { p: 0, v: 1 },
-        Kind::Go0 => Step::Go { p: 0, c: 0 },
-        Kind::Go1 => Step::Go { p: 0, c: 1 },
-    }
-}
-
-pub(super) fn limits() -> Limits
-    ensures { AreLimits result }
-{
-    Limits {
-        cells: 2048,
-        branches: 4,
-        log: 16,
-    }
-}
-
-/// The step at an index of `writes`, in which whole writes of 1 and of 0 alternate.
-fn write_at(index: u32) -> Step
-    ensures { fits_step safe_behaviour result ≡ true }
-{
-    match index % 6 {
-        0 => step_of(Kind::Write1),
-        3 => step_of(Kind::Write0),
-        _ => step_of(Kind::Go0),
-    }
-}
-
-/// 1,000 steps, in which whole writes of 1 and of 0 alternate.
-pub(super) fn writes(alloc: Global) -> Result<Vec<Step>, AllocError>
-    ensures { IfOk result (λ steps. AllFit safe_behaviour steps.items) }
-{
-    let mut steps = Vec::new(alloc);
-    for index in 0..1000u32 {
-        steps.push(write_at(index))?;
-    }
-    Ok(steps)
-}
 
 /// What a chart is asked, and the expected result.
 #[derive(Clone, Copy)]
@@ -92,7 +36,7 @@ pub(super) enum Ask {
     /// The run that was kept first is offered, and is installed if this is true.
     Install(bool),
     /// The plan has this number of jobs.
-    Left(usize),
+    JobsLeft(usize),
 }
 
 /// What a settle is asked for: all runs, or the last one alone. It replays the same steps for both.
@@ -199,7 +143,7 @@ impl Subject<'_> {
                     0,
                 ))
             }
-            Ask::Left(jobs) => Ok((jobs_left(self.alloc, &self.chart, branch)? == jobs, 0)),
+            Ask::JobsLeft(jobs) => Ok((jobs_left(self.alloc, &self.chart, branch)? == jobs, 0)),
             _ => {
                 make_asked_edit(rt, self.alloc, &mut self.chart, branch, ask)?;
                 Ok((true, 0))
@@ -383,7 +327,7 @@ fn settles_again_what_was_edited(rt: HostRuntime) {
         (Branch::Main, Ask::Settle(2, 0, 0)),
         (Branch::Main, Ask::Replace(0, Kind::Write0)),
         (Branch::Main, Ask::Settle(1, 2, 2)),
-        (Branch::Main, Ask::Left(0)),
+        (Branch::Main, Ask::JobsLeft(0)),
     ];
     let steps = [step_of(Kind::Write1), step_of(Kind::Read)];
     none_wrong(&rt, first_wrong(&rt, rt.alloc(), &steps, &rows));

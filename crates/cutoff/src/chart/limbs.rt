@@ -29,7 +29,7 @@ impl<R: Register> Chart<R> {
     /// # Errors
     ///
     /// Full if the limbs have more own cells in total than `limits.cells`; TooManyBranches; Memory.
-    #[tactic(auto, using(crate::proofs::SameBranches::refused_still, crate::proofs::SameBranches::out_of_memory))]
+    #[tactic(auto, using(crate::proofs::Refusals::refused_still, crate::proofs::Refusals::out_of_memory))]
     pub fn load(
         alloc: Global,
         register: R,

@@ -18,7 +18,7 @@ use Rattle.frames.specs.declared.types.FrameLayer.{FrameLayer}
 use Rattle.frames.specs.declared.types.FrameLayer.TheVariants as layer
 use Rattle.frames.specs.declared.types.LayerName.{LayerName}
 use Rattle.frames.specs.declared.running.Running.{Running}
-use Rattle.frames.specs.declared.config.Parked.{Parked}
+use Rattle.frames.specs.declared.config.ProcessState.{ProcessState}
 use Rattle.frames.specs.Behaviour.{Behaviour}
 use Rattle.frames.specs.Equality.{op_decides}
 use Rattle.frames.specs.Flat.{outermost, FramesGivePoint, IsReached, running_of, running_from, stack_of}
@@ -68,16 +68,16 @@ pub stack_per : IsPartialEquivalence stack_eq
 stack_per = per_from_decides stack_eq stack_decides
 
 -- whether two processes have equal stacks and equal stop marks
-abbrev pub parked_eq : Parked → Parked → Bool
-parked_eq a b = stack_eq a.stack b.stack && beq a.stopped b.stopped
+abbrev pub process_eq : ProcessState → ProcessState → Bool
+process_eq a b = stack_eq a.stack b.stack && beq a.stopped b.stopped
 
-pub parked_decides : (a b : Parked) → Decides (parked_eq a b) (a ≡ b)
-parked_decides a b =
-    Decides-like (parked_eq a b) (λ p. λ i. record { stack = p.0 i; stopped = p.1 i }) (λ p. (ap (λ x. x.stack) p, ap (λ x. x.stopped) p))
+pub process_decides : (a b : ProcessState) → Decides (process_eq a b) (a ≡ b)
+process_decides a b =
+    Decides-like (process_eq a b) (λ p. λ i. record { stack = p.0 i; stopped = p.1 i }) (λ p. (ap (λ x. x.stack) p, ap (λ x. x.stopped) p))
     (Decides-and (stack_eq a.stack b.stack) _ (stack_decides a.stack b.stack) (booleans_Decides a.stopped b.stopped))
 
-pub parked_per : IsPartialEquivalence parked_eq
-parked_per = per_from_decides parked_eq parked_decides
+pub process_per : IsPartialEquivalence process_eq
+process_per = per_from_decides process_eq process_decides
 
 -- an item can be set before or after the first `count` items are taken
 pub take_of_set : (index count : ℕ) (frames : List Frame) (frame : Frame) → take count (set frames index frame) ≡ set (take count frames) index frame

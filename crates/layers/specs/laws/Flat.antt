@@ -9,7 +9,7 @@ use Rattle.frames.specs.declared.types.Frame.{Frame}
 use Rattle.frames.specs.Flat.{outcome_of, left_frames, FramesGivePoint}
 use Rattle.layers.specs.Nested.{Table, layered}
 use Rattle.layers.specs.Sound.{LayerReaches}
-use Rattle.layers.specs.Flat.{layered_point, cut_where_ended}
+use Rattle.layers.specs.Flat.{layered_point, cut_if_ended}
 use Rattle.layers.specs.laws.Over.{LayerOver}
 
 pub layered_frames_give_point : {Task P : Type 0} (l : LayerOver Task P) (find : ℕ → List Frame → Option P) → FramesGivePoint l.below l.Reaches find
@@ -55,9 +55,9 @@ take_one_more first xs ys x e =
 -- still pending; if it has ended, only `front` is kept.
 pub part_leaves : {P : Type 0} (frames : P → List Frame) (frame : Frame) (front : List Frame) (next : Next P) (given : Option Outcome) (left : List Frame) (first : ℕ)
     → length front ≡ first → given ≡ outcome_of next → left ≡ (front ++ frame ∷ []) ++ left_frames frames next
-    → cut_where_ended first given left ≡ front ++ left_frames (λ p. frame ∷ frames p) next
+    → cut_if_ended first given left ≡ front ++ left_frames (λ p. frame ∷ frames p) next
 part_leaves frames frame front (Pending p) given left first long is leaves =
-    ap (λ g. cut_where_ended first g left) is ∙ leaves ∙ append_assoc front (frame ∷ []) (frames p)
+    ap (λ g. cut_if_ended first g left) is ∙ leaves ∙ append_assoc front (frame ∷ []) (frames p)
 part_leaves frames frame front (Done outcome) given left first long is leaves =
-    ap (λ g. cut_where_ended first g left) is ∙ ap (take first) (leaves ∙ append-nil (front ++ frame ∷ []))
+    ap (λ g. cut_if_ended first g left) is ∙ ap (take first) (leaves ∙ append-nil (front ++ frame ∷ []))
     ∙ take-append-le first front (frame ∷ []) (omega (arith, long)) ∙ take_all first front (omega (arith, long)) ∙ sym (append-nil front)

@@ -8,9 +8,9 @@ use Rattle.safe_bit.specs.laws.Parts.{LiesIn-place_after, LiesIn-with_part, IsPl
 use Rattle.frames.specs.declared.types.Op.{Op}
 use Rattle.layers.specs.declared.nested.Ask.{Ask}
 use Rattle.frames.specs.Placed.{placed_bit}
-use Rattle.layers.specs.Nested.{layer_size, own_words_start, part_place, asked, pushed}
+use Rattle.layers.specs.Nested.{layer_size, own_words_start, part_place, asked, part_goes}
 use Rattle.layers.specs.Sound.{WordsHold, LayerHolds}
-use Rattle.layers.specs.laws.Nested.{part_within, holds_with_part}
+use Rattle.layers.specs.laws.Nested.{part_within}
 use Rattle.layers.specs.InPlace.{LayerLies, own}
 use Rattle.layers.specs.laws.Over.{LayerOver}
 
@@ -72,33 +72,21 @@ module _ {Task P : Type 0} (l : LayerOver Task P)
 
   -- a bit action of part j reaches the same point or end, whether the part's memory is taken from
   -- the store or from the layer's memory
-  pub pushed_next : (j : ℕ) (p : P) (choice : Bool) → j < l.table.parts → (l.below.goes p choice (part (place_after at (part_place l.below.size j)) l.below.size m)).next ≡ (pushed l.below j p choice (own l.table l.below at m)).next
-  pushed_next j p choice lt = ap (λ inner. (l.below.goes p choice inner).next) (sym (part_of_own j lt))
+  pub part_goes_next : (j : ℕ) (p : P) (choice : Bool) → j < l.table.parts → (l.below.goes p choice (part (place_after at (part_place l.below.size j)) l.below.size m)).next ≡ (part_goes l.below j p choice (own l.table l.below at m)).next
+  part_goes_next j p choice lt = ap (λ inner. (l.below.goes p choice inner).next) (sym (part_of_own j lt))
 
   bit_of_place_after : (q : Place) (chosen : Option (ℕ × Bool)) → placed_bit (place_after at q) chosen ≡ placed_bit at (placed_bit q chosen)
   bit_of_place_after q None = refl
   bit_of_place_after q (Some bit) = ap (λ i. Some (i, bit.1)) (add_assoc at.cell q.cell bit.0)
 
-  pub pushed_chosen : (j : ℕ) (p : P) (choice : Bool) → j < l.table.parts
-      → placed_bit (place_after at (part_place l.below.size j)) (l.below.goes p choice (part (place_after at (part_place l.below.size j)) l.below.size m)).chosen ≡ placed_bit at (pushed l.below j p choice (own l.table l.below at m)).chosen
-  pushed_chosen j p choice lt =
+  pub part_goes_chosen : (j : ℕ) (p : P) (choice : Bool) → j < l.table.parts
+      → placed_bit (place_after at (part_place l.below.size j)) (l.below.goes p choice (part (place_after at (part_place l.below.size j)) l.below.size m)).chosen ≡ placed_bit at (part_goes l.below j p choice (own l.table l.below at m)).chosen
+  part_goes_chosen j p choice lt =
       bit_of_place_after (part_place l.below.size j) _ ∙ ap (λ inner. placed_bit at (placed_bit (part_place l.below.size j) (l.below.goes p choice inner).chosen)) (sym (part_of_own j lt))
 
-  pub pushed_memory : (j : ℕ) (p : P) (choice : Bool) (who : ℕ) (o : Op) → j < l.table.parts → l.Reaches who o p
+  pub part_goes_memory : (j : ℕ) (p : P) (choice : Bool) (who : ℕ) (o : Op) → j < l.table.parts → l.Reaches who o p
       → with_part (place_after at (part_place l.below.size j)) (l.below.goes p choice (part (place_after at (part_place l.below.size j)) l.below.size m)).memory m
-      ≡ with_part at (pushed l.below j p choice (own l.table l.below at m)).memory m
-  pushed_memory j p choice who o lt there =
+      ≡ with_part at (part_goes l.below j p choice (own l.table l.below at m)).memory m
+  part_goes_memory j p choice who o lt there =
       put_part j _ lt (l.lawful.goes_well who o p choice (part (place_after at (part_place l.below.size j)) l.below.size m) (part_holds j lt) there).holds
       ∙ ap (λ inner. with_part at (with_part (part_place l.below.size j) (l.below.goes p choice inner).memory (own l.table l.below at m)) m) (sym (part_of_own j lt))
-
-  -- the layer's memory still satisfies `LayerHolds` after an operation that fits is invoked on a
-  -- part
-  pub asked_holds : (a : Ask) → a.part < l.table.parts → l.below.suits a.who a.op ≡ true → LayerHolds l.table l.below l.Holds (asked l.below a (own l.table l.below at m)).memory
-  asked_holds a lt fits =
-      holds_with_part l a.part _ (own l.table l.below at m) lt
-      (l.lawful.begins_well a.who a.op (part (part_place l.below.size a.part) l.below.size (own l.table l.below at m)) (lies.holds.parts a.part lt) fits).holds lies.holds
-
-  pub pushed_holds : (j : ℕ) (p : P) (choice : Bool) (who : ℕ) (o : Op) → j < l.table.parts → l.Reaches who o p → LayerHolds l.table l.below l.Holds (pushed l.below j p choice (own l.table l.below at m)).memory
-  pushed_holds j p choice who o lt there =
-      holds_with_part l j _ (own l.table l.below at m) lt
-      (l.lawful.goes_well who o p choice (part (part_place l.below.size j) l.below.size (own l.table l.below at m)) (lies.holds.parts j lt) there).holds lies.holds

@@ -10,7 +10,7 @@ use Rattle.frames.specs.declared.types.Next.{Next}
 use Rattle.layers.specs.declared.nested.Continuation.{Continuation}
 use Rattle.layers.specs.declared.nested.Continuation.TheVariants as continuation
 use Rattle.frames.specs.Behaviour.{Answers, ReachedOrAnswered}
-use Rattle.layers.specs.Nested.{layer_size, own_words_start, asked, pushed, advance}
+use Rattle.layers.specs.Nested.{layer_size, own_words_start, asked, part_goes, advance}
 use Rattle.layers.specs.Sound.{IsNotSpent, LayerHolds}
 use Rattle.layers.specs.laws.Nested.{IsWell, asks_fit, rest_sound, after_part_well, advance_well, holds_with_part}
 use Rattle.layers.specs.Settled.{settled, ContinuationIsSound, tasks_left, run_on, follow_on}
@@ -44,15 +44,15 @@ module _ {Task P : Type 0} (l : LayerOver Task P) where
       let fit = asks_fit l who o task at_task in
       holds_with_part l (l.table.asks task).part _ m fit.0 (l.lawful.begins_well (l.table.asks task).who (l.table.asks task).op _ (h.parts (l.table.asks task).part fit.0) fit.1).holds h
 
-  pub task_pushed_reached : (who : ℕ) (o : Op) (task : Task) (p : P) (choice : Bool) (m : Memory) → LayerHolds l.table l.below l.Holds m → l.MayBeAt who o task → l.Reaches (l.table.asks task).who (l.table.asks task).op p
-      → ReachedOrAnswered (l.Reaches (l.table.asks task).who (l.table.asks task).op) (Answers l.below.values (l.table.asks task).op) (pushed l.below (l.table.asks task).part p choice m).next
-  task_pushed_reached who o task p choice m h at_task there =
+  pub task_goes_reached : (who : ℕ) (o : Op) (task : Task) (p : P) (choice : Bool) (m : Memory) → LayerHolds l.table l.below l.Holds m → l.MayBeAt who o task → l.Reaches (l.table.asks task).who (l.table.asks task).op p
+      → ReachedOrAnswered (l.Reaches (l.table.asks task).who (l.table.asks task).op) (Answers l.below.values (l.table.asks task).op) (part_goes l.below (l.table.asks task).part p choice m).next
+  task_goes_reached who o task p choice m h at_task there =
       let fit = asks_fit l who o task at_task in
       (l.lawful.goes_well (l.table.asks task).who (l.table.asks task).op p choice _ (h.parts (l.table.asks task).part fit.0) there).may_be_at
 
-  pub task_pushed_holds : (who : ℕ) (o : Op) (task : Task) (p : P) (choice : Bool) (m : Memory) → LayerHolds l.table l.below l.Holds m → l.MayBeAt who o task → l.Reaches (l.table.asks task).who (l.table.asks task).op p
-      → LayerHolds l.table l.below l.Holds (pushed l.below (l.table.asks task).part p choice m).memory
-  task_pushed_holds who o task p choice m h at_task there =
+  pub task_goes_holds : (who : ℕ) (o : Op) (task : Task) (p : P) (choice : Bool) (m : Memory) → LayerHolds l.table l.below l.Holds m → l.MayBeAt who o task → l.Reaches (l.table.asks task).who (l.table.asks task).op p
+      → LayerHolds l.table l.below l.Holds (part_goes l.below (l.table.asks task).part p choice m).memory
+  task_goes_holds who o task p choice m h at_task there =
       let fit = asks_fit l who o task at_task in
       holds_with_part l (l.table.asks task).part _ m fit.0 (l.lawful.goes_well (l.table.asks task).who (l.table.asks task).op p choice _ (h.parts (l.table.asks task).part fit.0) there).holds h
 

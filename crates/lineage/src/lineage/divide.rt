@@ -7,7 +7,7 @@ ghost use Rattle.lineage.specs.Lineages.{node_over, node_under};
 
 use super::push::reserve_node;
 use super::{Key, Lineage};
-use crate::node::{Above, Node};
+use crate::node::{KeyWord, Node};
 use slab::Slab;
 use std::alloc::AllocError;
 
@@ -50,6 +50,6 @@ pub(super) fn put_above<X>(nodes: &mut Slab<Node<X>>, key: Key, item: X) -> Key
         above,
         holders: 1,
     });
-    nodes[key].above = Above::of(fresh);
+    nodes[key].above = KeyWord::of(fresh);
     fresh
 }

@@ -8,7 +8,7 @@ ghost use Rattle.lineage.specs.Lineages.{IsSoundFamily, IsPutLast};
 use super::Lineage;
 use super::push::push_node;
 use super::release::free_up;
-use crate::node::{Above, Node};
+use crate::node::{KeyWord, Node};
 use slab::Slab;
 use std::alloc::AllocError;
 
@@ -36,7 +36,7 @@ impl<X: Drop> Lineage<X> {
 /// paths and nodes together would then be too many for a word to count.
 pub(super) fn reserve_path<X>(
     nodes: &mut Slab<Node<X>>,
-    tips: &mut Vec<Above>,
+    tips: &mut Vec<KeyWord>,
     count: usize,
 ) -> Result<(), AllocError>
     ensures slots { nodes.new.slots ≡ nodes.old.slots }
@@ -56,7 +56,7 @@ pub(super) fn reserve_path<X>(
 }
 
 /// Adds a path of these new items at the end of the list of paths.
-fn put_last<X: Drop>(nodes: &mut Slab<Node<X>>, tips: &mut Vec<Above>, items: Vec<X>)
+fn put_last<X: Drop>(nodes: &mut Slab<Node<X>>, tips: &mut Vec<KeyWord>, items: Vec<X>)
     requires sound { IsSoundFamily nodes.old.slots tips.old.items }
     requires room { HasRoomFor nodes.old (length items.items) }
     requires space { length tips.old.items < vec_capacity tips.old }
@@ -64,7 +64,7 @@ fn put_last<X: Drop>(nodes: &mut Slab<Node<X>>, tips: &mut Vec<Above>, items: Ve
     ensures { IsPutLast nodes.old.slots nodes.new.slots tips.old.items tips.new.items items.items }
 {
     let last = tips.len();
-    tips.push_reserved(Above::none());
+    tips.push_reserved(KeyWord::none());
     for item in items {
         push_node(nodes, tips, last, item);
     }

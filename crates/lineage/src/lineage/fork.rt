@@ -8,7 +8,7 @@ ghost use Rattle.lineage.specs.Lineages.{is_key, with_holder};
 use super::divide::put_above;
 use super::exchange::reserve_path;
 use super::{Key, Lineage};
-use crate::node::{Above, Node};
+use crate::node::{KeyWord, Node};
 use slab::Slab;
 use std::alloc::AllocError;
 
@@ -27,7 +27,7 @@ impl<X: Drop> Lineage<X> {
     {
         reserve_tip(&mut self.tips, self.nodes.len())?;
         hold(&mut self.nodes, key);
-        self.tips.push_reserved(end_at(&self.nodes, key));
+        self.tips.push_reserved(key_word(&self.nodes, key));
         Ok(())
     }
 
@@ -48,14 +48,14 @@ impl<X: Drop> Lineage<X> {
         reserve_path(&mut self.nodes, &mut self.tips, 1)?;
         let fresh = put_above(&mut self.nodes, key, item);
         hold(&mut self.nodes, Some(fresh));
-        self.tips.push_reserved(Above::of(fresh));
+        self.tips.push_reserved(KeyWord::of(fresh));
         Ok(fresh)
     }
 }
 
 /// Reserves memory for one more path; `nodes` is the number of nodes. Fails if it can't, or if the
 /// paths and nodes together would then be too many for a word to count.
-fn reserve_tip(tips: &mut Vec<Above>, nodes: usize) -> Result<(), AllocError>
+fn reserve_tip(tips: &mut Vec<KeyWord>, nodes: usize) -> Result<(), AllocError>
     ensures items { tips.new.items ≡ tips.old.items }
     ensures room { OnOk result (length tips.new.items < vec_capacity tips.new) }
     ensures few { OnOk result (length tips.old.items + nodes + 1 < 2 ^ 64) }
@@ -69,15 +69,15 @@ fn reserve_tip(tips: &mut Vec<Above>, nodes: usize) -> Result<(), AllocError>
 }
 
 /// `key`, which is `None` or the key of an existing item, in one word.
-fn end_at<X>(nodes: &Slab<Node<X>>, key: Option<Key>) -> Above
+fn key_word<X>(nodes: &Slab<Node<X>>, key: Option<Key>) -> KeyWord
     requires { IfSome key (λ k. ContainsKey nodes.now k) }
     ensures { result ≡ key }
 {
     // for the proof: there are fewer than 2^64 slots, so no key is the word that means `None`
     let _most = nodes.capacity();
     match key {
-        Some(key) => Above::of(key),
-        None => Above::none(),
+        Some(key) => KeyWord::of(key),
+        None => KeyWord::none(),
     }
 }
 

@@ -6,7 +6,7 @@ ghost use Rattle.lineage.specs.Family.{IsAdded, path_in};
 ghost use Rattle.lineage.specs.Lineages.{node, tip_at};
 
 use super::{Key, Lineage};
-use crate::node::{Above, Node};
+use crate::node::{KeyWord, Node};
 use slab::Slab;
 use std::alloc::AllocError;
 
@@ -51,7 +51,7 @@ pub(super) fn reserve_node<X>(nodes: &mut Slab<Node<X>>, tips: usize) -> Result<
 /// that path, and its own key is then the last. Returns that key.
 pub(super) fn push_node<X>(
     nodes: &mut Slab<Node<X>>,
-    tips: &mut Vec<Above>,
+    tips: &mut Vec<KeyWord>,
     path: usize,
     item: X,
 ) -> Key
@@ -72,6 +72,6 @@ pub(super) fn push_node<X>(
         above,
         holders: 1,
     });
-    tips[path] = Above::of(key);
+    tips[path] = KeyWord::of(key);
     key
 }

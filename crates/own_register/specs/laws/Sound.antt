@@ -106,5 +106,5 @@ two_bits_task_decides (ReadLow x i) (ReadLow y j) =
 two_bits_task_decides _ _ = (λ h. cc, λ h. cc)
 
 -- two bits with the same number of processes have the same rules
-pub two_bits_alike : (p q : ℕ) → nat_eq p q ≡ true → two_bits_table p ≡ two_bits_table q
-two_bits_alike p q h = ap two_bits_table ((Decides-eqb p q).0 h)
+pub two_bits_table_alike : (p q : ℕ) → nat_eq p q ≡ true → two_bits_table p ≡ two_bits_table q
+two_bits_table_alike p q h = ap two_bits_table ((Decides-eqb p q).0 h)

@@ -18,8 +18,8 @@ branches_page edits f = record { edits = edits; made = f.made; branches = map na
 
 -- the first line of the page: the session's number, how many branches there are, how many edits
 -- were accepted, and how many cells were ever made
-abbrev pub counts_line : ℕ → ℕ → ℕ → ℕ → List ℕ
-counts_line session count edits made =
+abbrev pub branches_head : ℕ → ℕ → ℕ → ℕ → List ℕ
+branches_head session count edits made =
     decimal session ++ codes ": branches " ++ decimal count ++ codes " edits " ++ decimal edits ++ codes " made " ++ decimal made ++ line_end
 
 -- the line of a branch: its name and its length
@@ -28,4 +28,4 @@ branch_line b = codes "  " ++ b.name ++ codes " " ++ decimal b.len ++ line_end
 
 -- the text of a page that lists the branches, as the answer to the session with this number
 abbrev pub branches_text : ℕ → BranchesPage → List ℕ
-branches_text session page = counts_line session (length page.branches) page.edits page.made ++ flat_map branch_line page.branches
+branches_text session page = branches_head session (length page.branches) page.edits page.made ++ flat_map branch_line page.branches

@@ -4,7 +4,7 @@ use Rattle.std.specs.Fmt.{decimal}
 use Rattle.frames.specs.declared.types.Event.{Event}
 use Rattle.frames.specs.declared.types.Event.TheVariants.{Invoke, Got, Wrote, Refused, Void, Stop, Chosen}
 use Rattle.pages.specs.declared.page.history.HistoryPage.{HistoryPage}
-use Rattle.pages.specs.Numbered.{lines_or_none}
+use Rattle.pages.specs.Lines.{lines_or_none}
 use Rattle.pages.specs.page.Head.{line_end, head_line}
 use Rattle.pages.specs.page.Names.{layer_name, reason_name}
 use Rattle.pages.specs.page.Memory.{bit_name}

@@ -3,7 +3,7 @@ use Rattle.std.specs.Prelude.{ℕ, List, [], ◌∷◌, ◌++◌, Option, Some, 
 use Rattle.std.specs.List.{flat_map}
 use Rattle.std.specs.Fmt.{decimal}
 use Rattle.safe_bit.specs.declared.Cell.{Cell}
-use Rattle.pages.specs.Numbered.{numbered_lines}
+use Rattle.pages.specs.Lines.{numbered_lines}
 use Rattle.pages.specs.page.Head.{line_end}
 
 -- a bit's value as text: `1` if it is true, else `0`

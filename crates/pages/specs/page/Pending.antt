@@ -11,7 +11,7 @@ use Rattle.frames.specs.declared.running.Running.{Running}
 use Rattle.frames.specs.Behaviour.{Behaviour}
 use Rattle.frames.specs.Configuration.{Configuration, running_at, is_stopped}
 use Rattle.pages.specs.declared.page.pending.PendingStatus.{PendingStatus}
-use Rattle.pages.specs.Numbered.{numbered_lines}
+use Rattle.pages.specs.Lines.{numbered_lines}
 use Rattle.pages.specs.declared.page.head.Head.{Head}
 use Rattle.pages.specs.declared.page.pending.PendingPage.{PendingPage}
 use Rattle.pages.specs.page.Head.{line_end, head_line}
@@ -25,12 +25,12 @@ frames_of b None = None
 frames_of b (Some r) = Some (b.frames r.point)
 
 -- what process p has pending, as frames, and whether the process has stopped
-abbrev pub pending_at : {R P : Type 0} → Behaviour P → Configuration R P → ℕ → PendingStatus
-pending_at b c p = record { frames = frames_of b (running_at p c); stopped = is_stopped p c }
+abbrev pub pending_status_at : {R P : Type 0} → Behaviour P → Configuration R P → ℕ → PendingStatus
+pending_status_at b c p = record { frames = frames_of b (running_at p c); stopped = is_stopped p c }
 
 -- what each process has pending, and whether it has stopped, in the order of the processes
-abbrev pub pending : {R P : Type 0} → Behaviour P → Configuration R P → List PendingStatus
-pending b c = map (pending_at b c) (range_with_len 0 b.processes)
+abbrev pub pending_statuses : {R P : Type 0} → Behaviour P → Configuration R P → List PendingStatus
+pending_statuses b c = map (pending_status_at b c) (range_with_len 0 b.processes)
 
 -- the short text of an operation: `w` and the number `written` for a write, `r` for a read
 abbrev pub short_op : Op → ℕ → List ℕ
@@ -83,17 +83,17 @@ frames_or_idle_line p None stopped = idle_line p stopped
 frames_or_idle_line p (Some fs) stopped = frames_line p fs stopped
 
 -- the line of process p, given what it has pending and whether it has stopped
-abbrev pub pending_line : ℕ → PendingStatus → List ℕ
-pending_line p s = frames_or_idle_line p s.frames s.stopped
+abbrev pub pending_status_line : ℕ → PendingStatus → List ℕ
+pending_status_line p s = frames_or_idle_line p s.frames s.stopped
 
 -- a line for each process, numbered from 0
-abbrev pub pending_lines : List PendingStatus → List ℕ
-pending_lines statuses = numbered_lines pending_line 0 statuses
+abbrev pub pending_status_lines : List PendingStatus → List ℕ
+pending_status_lines statuses = numbered_lines pending_status_line 0 statuses
 
 -- the page that shows what each process has pending in a configuration
 abbrev pub pending_page : {R P : Type 0} → Behaviour P → Head → Configuration R P → PendingPage
-pending_page b head c = record { head = head; processes = pending b c }
+pending_page b head c = record { head = head; processes = pending_statuses b c }
 
 -- the text of a page of pending operations, as the answer to the session with this number
 abbrev pub pending_text : ℕ → PendingPage → List ℕ
-pending_text session page = head_line session (codes "pending") page.head ++ pending_lines page.processes
+pending_text session page = head_line session (codes "pending") page.head ++ pending_status_lines page.processes

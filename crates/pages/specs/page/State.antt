@@ -4,7 +4,7 @@ use Rattle.frames.specs.Behaviour.{Behaviour}
 use Rattle.frames.specs.Configuration.{Configuration}
 use Rattle.pages.specs.declared.page.head.Head.{Head}
 use Rattle.pages.specs.declared.page.state.StatePage.{StatePage}
-use Rattle.pages.specs.Numbered.{numbered_lines}
+use Rattle.pages.specs.Lines.{numbered_lines}
 use Rattle.pages.specs.page.Head.{head_line}
 use Rattle.pages.specs.page.Process.{statuses, status_line}
 use Rattle.pages.specs.page.Memory.{cell_value, bits_line, words_line}

@@ -4,7 +4,7 @@ use Rattle.std.specs.Fmt.{decimal}
 use Rattle.frames.specs.declared.types.Step.{Step}
 use Rattle.pages.specs.declared.page.steps.StepsPage.{StepsPage}
 use Rattle.words.specs.Steps.{step_text}
-use Rattle.pages.specs.Numbered.{numbered_lines}
+use Rattle.pages.specs.Lines.{numbered_lines}
 use Rattle.pages.specs.page.Head.{line_end, page_title}
 
 -- the first line of the page: the session's number, the branch's name, and how many steps there are

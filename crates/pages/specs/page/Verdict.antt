@@ -5,7 +5,7 @@ use Rattle.frames.specs.declared.verdict.ReadVerdict.{ReadVerdict}
 use Rattle.frames.specs.declared.types.Event.{Event}
 use Rattle.pages.specs.declared.page.head.Head.{Head}
 use Rattle.pages.specs.declared.page.verdict.VerdictPage.{VerdictPage}
-use Rattle.pages.specs.Numbered.{lines_or_none}
+use Rattle.pages.specs.Lines.{lines_or_none}
 use Rattle.pages.specs.page.Head.{line_end, head_line}
 use Rattle.pages.specs.page.Names.{verdict_name}
 use Rattle.frames.specs.correctness.Verdicts.{verdicts}

@@ -5,7 +5,7 @@ ghost use Rattle.pages.specs.page.Bits as spec;
 
 use crate::page::head::{Head, push_head};
 use crate::page::lines::push_lines;
-use crate::page::memory::push_words;
+use crate::page::memory::push_words_line;
 use branch_terms::listed::Listed;
 use frames::config::Config;
 use frames::register::Register;
@@ -43,5 +43,5 @@ pub(crate) fn push_bits(out: &mut Vec<u8>, session: u32, page: &BitsPage) -> Pus
 {
     push_head(out, session, "bits", &page.head)?;
     push_lines(out, page.cells.as_slice())?;
-    push_words(out, page.words.as_slice())
+    push_words_line(out, page.words.as_slice())
 }

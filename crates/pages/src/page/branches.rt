@@ -32,22 +32,28 @@ pub(crate) fn push_branches(out: &mut Vec<u8>, session: u32, page: &BranchesPage
     ensures { OnOk result (out.new.items ≡ out.old.items ++ spec.branches_text session page.now) }
 {
     let branches = page.branches.as_slice();
-    push_counts(out, session, branches.len(), page.edits, page.made)?;
+    push_branches_head(out, session, branches.len(), page.edits, page.made)?;
     push_lines(out, branches)
 }
 
 /// Adds the first line of the page of the branches.
-fn push_counts(out: &mut Vec<u8>, session: u32, count: usize, edits: u64, made: u32) -> Pushed
+fn push_branches_head(
+    out: &mut Vec<u8>,
+    session: u32,
+    count: usize,
+    edits: u64,
+    made: u32,
+) -> Pushed
     ensures { OnOk result (out.new.items ≡ out.old.items
-        ++ spec.counts_line session count edits made) }
+        ++ spec.branches_head session count edits made) }
 {
     push_number(out, u64::from(session))?;
     push_labelled(out, ": branches ", count as u64)?;
-    push_made(out, edits, made)
+    push_edits_and_made(out, edits, made)
 }
 
 /// Adds how many edits were accepted and how many cells were ever made, and the end of the line.
-fn push_made(out: &mut Vec<u8>, edits: u64, made: u32) -> Pushed
+fn push_edits_and_made(out: &mut Vec<u8>, edits: u64, made: u32) -> Pushed
     ensures { OnOk result (out.new.items ≡ out.old.items
         ++ codes " edits " ++ decimal edits ++ codes " made " ++ decimal made ++ line_end) }
 {

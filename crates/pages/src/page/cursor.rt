@@ -61,7 +61,7 @@ fn push_break_text(out: &mut Vec<u8>, at: Break) -> Pushed
 {
     match at {
         Break::Returns(p) => push_labelled(out, "returns ", u64::from(p)),
-        Break::Bit(j, v) => push_bit(out, j, v),
+        Break::Bit(j, v) => push_bit_break(out, j, v),
         Break::Chosen => push_text(out, "chosen"),
         Break::Void => push_text(out, "void"),
         Break::Refused => push_text(out, "refused"),
@@ -69,7 +69,7 @@ fn push_break_text(out: &mut Vec<u8>, at: Break) -> Pushed
 }
 
 /// Adds the text of a break on bit `j` with value `v`.
-fn push_bit(out: &mut Vec<u8>, j: u32, v: u32) -> Pushed
+fn push_bit_break(out: &mut Vec<u8>, j: u32, v: u32) -> Pushed
     ensures { OnOk result (out.new.items ≡ out.old.items ++ spec.break_text (Break.Bit j v)) }
 {
     push_labelled(out, "bit ", u64::from(j))?;

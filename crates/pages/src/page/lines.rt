@@ -1,7 +1,7 @@
 //! Lines for the items of a list.
 
 ghost use Rattle.std.specs.Prelude.{◌≡◌, ◌++◌, ℕ, List, OnOk};
-ghost use Rattle.pages.specs.Numbered.{numbered_lines, lines_or_none};
+ghost use Rattle.pages.specs.Lines.{numbered_lines, lines_or_none};
 
 use words::text::{Pushed, push_text};
 

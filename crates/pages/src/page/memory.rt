@@ -11,7 +11,7 @@ use std::alloc::{AllocError, Global};
 use words::text::{Pushed, push_labelled, push_text, push_word};
 
 /// The value of each of these bit cells, in order.
-pub(crate) fn bits(alloc: Global, cells: &[Cell]) -> Result<Listed<bool>, AllocError>
+pub(crate) fn cell_values(alloc: Global, cells: &[Cell]) -> Result<Listed<bool>, AllocError>
     ensures { IfOk result (λ all. all ≡ map spec.cell_value cells.now) }
 {
     let mut all = Vec::new(alloc);
@@ -29,7 +29,7 @@ pub(crate) fn bit_name(value: bool) -> &'static str
 }
 
 /// Adds to `out` one line with the values of all bit cells.
-pub(crate) fn push_bits(out: &mut Vec<u8>, bits: &[bool]) -> Pushed
+pub(crate) fn push_bits_line(out: &mut Vec<u8>, bits: &[bool]) -> Pushed
     ensures { OnOk result (out.new.items ≡ out.old.items ++ spec.bits_line bits.now) }
 {
     push_text(out, "  bits ")?;
@@ -47,7 +47,7 @@ fn push_bit_name(out: &mut Vec<u8>, value: bool) -> Pushed
 }
 
 /// Adds to `out` one line with all words, or with a dash if there are no words.
-pub(crate) fn push_words(out: &mut Vec<u8>, words: &[u32]) -> Pushed
+pub(crate) fn push_words_line(out: &mut Vec<u8>, words: &[u32]) -> Pushed
     ensures { OnOk result (out.new.items ≡ out.old.items ++ spec.words_line words.now) }
 {
     if words.is_empty() {

@@ -65,27 +65,28 @@ pub(crate) fn push_pending(out: &mut Vec<u8>, session: u32, page: &PendingPage) 
 }
 
 /// For each process, in order: the operation it has pending, as frames, and whether it has stopped.
-pub(crate) fn pending<R: Register>(
+pub(crate) fn pending_statuses<R: Register>(
     alloc: Global,
     config: &Config<R>,
 ) -> Result<Listed<PendingStatus>, AllocError>
-    ensures { IfOk result (λ all. all ≡ spec.pending (R.behaviour config.now.register) config.now) }
+    ensures { IfOk result
+        (λ all. all ≡ spec.pending_statuses (R.behaviour config.now.register) config.now) }
 {
     let mut all = Vec::new(alloc);
     for p in 0..config.register().processes() {
-        all.push(pending_at(alloc, config, p)?)?;
+        all.push(pending_status_at(alloc, config, p)?)?;
     }
     Ok(Listed::new(all))
 }
 
 /// The operation that process `p` has pending, as frames, and whether the process has stopped.
-fn pending_at<R: Register>(
+fn pending_status_at<R: Register>(
     alloc: Global,
     config: &Config<R>,
     p: u32,
 ) -> Result<PendingStatus, AllocError>
     ensures { IfOk result
-        (λ s. s ≡ spec.pending_at (R.behaviour config.now.register) config.now p) }
+        (λ s. s ≡ spec.pending_status_at (R.behaviour config.now.register) config.now p) }
 {
     let stopped = config.stopped(p);
     let frames = match config.stack(alloc, p) {
@@ -100,28 +101,28 @@ fn pending_at<R: Register>(
 
 /// The line shows the pending operation as frames; `p` is the number of the process.
 impl Line for PendingStatus {
-    ghost line = { spec.pending_line };
+    ghost line = { spec.pending_status_line };
 
     fn push_line(&self, out: &mut Vec<u8>, p: usize) -> Pushed {
         match &self.frames {
             None => push_idle(out, p, self.stopped),
-            Some(frames) => push_frames(out, p, frames.as_slice(), self.stopped),
+            Some(frames) => push_frames_line(out, p, frames.as_slice(), self.stopped),
         }
     }
 }
 
 /// Adds the line of a process that has an operation pending, which is shown as frames.
-fn push_frames(out: &mut Vec<u8>, p: usize, frames: &[Frame], stopped: bool) -> Pushed
+fn push_frames_line(out: &mut Vec<u8>, p: usize, frames: &[Frame], stopped: bool) -> Pushed
     ensures { OnOk result (out.new.items ≡ out.old.items ++ spec.frames_line p frames.now stopped) }
 {
     push_process_number(out, p)?;
-    push_nested(out, frames)?;
+    push_frames(out, frames)?;
     push_text(out, stopped_text(stopped))?;
     push_text(out, "\n")
 }
 
 /// Adds frames, outermost first.
-fn push_nested(out: &mut Vec<u8>, frames: &[Frame]) -> Pushed
+fn push_frames(out: &mut Vec<u8>, frames: &[Frame]) -> Pushed
     ensures { OnOk result (out.new.items ≡ out.old.items ++ spec.frames_text frames.now) }
 {
     let Some((outermost, inner)) = frames.split_first() else {
@@ -129,13 +130,13 @@ fn push_nested(out: &mut Vec<u8>, frames: &[Frame]) -> Pushed
     };
     push_frame(out, *outermost)?;
     for frame in inner {
-        push_inner(out, *frame)?;
+        push_inner_frame(out, *frame)?;
     }
     Ok(())
 }
 
 /// Adds a frame that isn't the outermost.
-fn push_inner(out: &mut Vec<u8>, frame: Frame) -> Pushed
+fn push_inner_frame(out: &mut Vec<u8>, frame: Frame) -> Pushed
     ensures { OnOk result (out.new.items ≡ out.old.items ++ spec.inner_frame frame) }
 {
     push_text(out, " > ")?;

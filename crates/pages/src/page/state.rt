@@ -5,7 +5,7 @@ ghost use Rattle.pages.specs.page.State as spec;
 
 use crate::page::head::{Head, push_head};
 use crate::page::lines::push_lines;
-use crate::page::memory::{bits, push_bits, push_words};
+use crate::page::memory::{cell_values, push_bits_line, push_words_line};
 use crate::page::process::{ProcessStatus, statuses};
 use branch_terms::listed::Listed;
 use frames::config::Config;
@@ -35,7 +35,7 @@ pub(crate) fn state_page<R: Register>(
     Ok(StatePage {
         head: *head,
         processes: statuses(alloc, config)?,
-        bits: bits(alloc, store.cells())?,
+        bits: cell_values(alloc, store.cells())?,
         words: Listed::of(alloc, store.words())?,
     })
 }
@@ -46,6 +46,6 @@ pub(crate) fn push_state(out: &mut Vec<u8>, session: u32, page: &StatePage) -> P
 {
     push_head(out, session, "state", &page.head)?;
     push_lines(out, page.processes.as_slice())?;
-    push_bits(out, page.bits.as_slice())?;
-    push_words(out, page.words.as_slice())
+    push_bits_line(out, page.bits.as_slice())?;
+    push_words_line(out, page.words.as_slice())
 }

@@ -122,7 +122,7 @@ impl<R: Register> Neighbours<R> {
 
     /// Makes a whole operation on one neighbour. Returns the outcome; `None` if the operation takes
     /// more than 100 bit actions.
-    fn whole(&mut self, rt: &impl Abort, side: Side, who: u32, op: Op) -> Option<Outcome> {
+    fn run_whole(&mut self, rt: &impl Abort, side: Side, who: u32, op: Op) -> Option<Outcome> {
         assert!(rt; self.register.fits(who, op));
         let mut stack = FlatStack::new();
         let mut end = self.begin(side, who, op, &mut stack);
@@ -152,10 +152,10 @@ fn assert_content<R: Register>(
 
 /// Writes a value to one neighbour, and asserts that both readers read it.
 fn write_and_read<R: Register>(rt: &impl Abort, both: &mut Neighbours<R>, side: Side, value: u32) {
-    let written = both.whole(rt, side, 0, Op::Write(value));
+    let written = both.run_whole(rt, side, 0, Op::Write(value));
     assert_eq!(rt; written, Some(Outcome::Written));
     for who in [1, 2] {
-        let read = both.whole(rt, side, who, Op::Read);
+        let read = both.run_whole(rt, side, who, Op::Read);
         assert_eq!(rt; read, Some(Outcome::Value(value)));
     }
 }
@@ -179,7 +179,7 @@ fn assert_other_left<R: Register>(
 
 /// Writes 2 to one neighbour, a unary number, and begins to write 0 to it.
 fn begin_write<R: Register>(rt: &impl Abort, both: &mut Neighbours<R>, side: Side) {
-    let written = both.whole(rt, side, 0, Op::Write(2));
+    let written = both.run_whole(rt, side, 0, Op::Write(2));
     assert_eq!(rt; written, Some(Outcome::Written));
     both.leave_pending(rt, side, 0, Op::Write(0));
 }

@@ -1,7 +1,7 @@
 //! Tests of the constructors of layers: what they refuse, and the size, values, processes and depth
 //! of what they build.
 
-use crate::spelling::assert_text;
+use crate::file_checks::assert_text;
 use frames::register::Register;
 use frames::safe::Safe;
 use layers::fit::LayerError;

@@ -1,4 +1,5 @@
--- Two stores are equal if their cells and their words are equal.
+-- Two stores are equal if their cells and their words are equal. The first two lemmas are about any
+-- test that decides equality.
 use Rattle.std.proofs.Common.{◌≡◌, Bool, ◌&&◌, nat_eq, refl, sym, ap, ◌∙◌, Option, Some, None}
 use Rattle.std.specs.Bool.{Decides}
 use Rattle.std.specs.Cmp.{IsPartialEquivalence, booleans_Decides}

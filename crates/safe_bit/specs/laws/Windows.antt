@@ -7,8 +7,8 @@ use Rattle.std.proofs.lemmas.List.{set_split, take_at, drop_at, take-append-drop
 use Rattle.safe_bit.specs.Windows.{splice, window}
 
 -- P k holds if it holds in each of three cases: index k is before a window, in it, or after it
-by_place : (i n k : ℕ) (P : ℕ → Type 0) → (k < i → P k) → ((m : ℕ) → k ≡ i + m → m < n → P k) → (i + n ≤ k → P k) → P k
-by_place i n k P before inside after =
+by_window : (i n k : ℕ) (P : ℕ → Type 0) → (k < i → P k) → ((m : ℕ) → k ≡ i + m → m < n → P k) → (i + n ≤ k → P k) → P k
+by_window i n k P before inside after =
     elim (cases_lt k i) [
       | inl lt ↦ before lt
       | inr ge ↦ elim (cases_lt k (i + n)) [ inl lt ↦ inside (k - i) (omega arith) (omega arith) | inr past ↦ after past ]
@@ -69,19 +69,19 @@ module _ {A : Type 0} where
       let lz = length-splice i zs xs h in
       let hy' : i + length ys ≤ length (splice i zs xs) = omega arith in
       same_lists _ _ (length-splice i ys (splice i zs xs) hy' ∙ lz ∙ sym (length-splice i ys xs hy))
-      (λ k d lt. by_place i (length ys) k (λ _. get_or (splice i ys (splice i zs xs)) k d ≡ get_or (splice i ys xs) k d)
+      (λ k d lt. by_window i (length ys) k (λ _. get_or (splice i ys (splice i zs xs)) k d ≡ get_or (splice i ys xs) k d)
       (λ before. get_or-splice_before i ys (splice i zs xs) k d hy' before ∙ get_or-splice_before i zs xs k d h before ∙ sym (get_or-splice_before i ys xs k d hy before))
       (λ m at_m less. rw at_m (get_or-splice_inside i ys (splice i zs xs) m d hy' less ∙ sym (get_or-splice_inside i ys xs m d hy less)))
       (λ after. get_or-splice_after i ys (splice i zs xs) k d hy' after ∙ get_or-splice_after i zs xs k d h (omega arith) ∙ sym (get_or-splice_after i ys xs k d hy after)))
 
   -- two lists are equal if they agree before a window, in it, and after it
-  same_in_three : (i n : ℕ) (xs ys : List A) → length xs ≡ length ys
+  same_by_window : (i n : ℕ) (xs ys : List A) → length xs ≡ length ys
       → ((k : ℕ) (d : A) → k < i → get_or xs k d ≡ get_or ys k d)
       → ((k : ℕ) (d : A) → k < n → get_or xs (i + k) d ≡ get_or ys (i + k) d)
       → ((k : ℕ) (d : A) → i + n ≤ k → get_or xs k d ≡ get_or ys k d)
       → xs ≡ ys
-  same_in_three i n xs ys e before inside after =
-      same_lists xs ys e (λ (k : ℕ) (d : A) (_ : k < length xs). by_place i n k (λ m. get_or xs m d ≡ get_or ys m d)
+  same_by_window i n xs ys e before inside after =
+      same_lists xs ys e (λ (k : ℕ) (d : A) (_ : k < length xs). by_window i n k (λ m. get_or xs m d ≡ get_or ys m d)
       (λ lt. before k d lt)
       (λ m at_m lt. rw at_m (inside m d lt))
       (λ past. after k d past))
@@ -96,7 +96,7 @@ module _ {A : Type 0} where
       let ls = length-splice j ys (window i n xs) hj in
       let hs : i + length (splice j ys (window i n xs)) ≤ length xs = omega arith in
       let hij : i + j + length ys ≤ length xs = omega arith in
-      same_in_three i n (splice i (splice j ys (window i n xs)) xs) (splice (i + j) ys xs)
+      same_by_window i n (splice i (splice j ys (window i n xs)) xs) (splice (i + j) ys xs)
       (length-splice i (splice j ys (window i n xs)) xs hs ∙ sym (length-splice (i + j) ys xs hij))
       (λ k d before. get_or-splice_before i (splice j ys (window i n xs)) xs k d hs before ∙ sym (get_or-splice_before (i + j) ys xs k d hij (omega arith)))
       (λ m d less. get_or-splice_inside i (splice j ys (window i n xs)) xs m d hs (omega arith) ∙ inside m d less hj hij)
@@ -105,7 +105,7 @@ module _ {A : Type 0} where
       inside : (m : ℕ) (d : A) → m < n → j + length ys ≤ length (window i n xs) → i + j + length ys ≤ length xs
           → get_or (splice j ys (window i n xs)) m d ≡ get_or (splice (i + j) ys xs) (i + m) d
       inside m d less hj hij =
-          by_place j (length ys) m (λ q. get_or (splice j ys (window i n xs)) q d ≡ get_or (splice (i + j) ys xs) (i + q) d)
+          by_window j (length ys) m (λ q. get_or (splice j ys (window i n xs)) q d ≡ get_or (splice (i + j) ys xs) (i + q) d)
           (λ before. get_or-splice_before j ys (window i n xs) m d hj before ∙ get_or-window i n xs m d less ∙ sym (get_or-splice_before (i + j) ys xs (i + m) d hij (omega arith)))
           (λ p at_p below. rw at_p (get_or-splice_inside j ys (window i n xs) p d hj below
           ∙ sym (ap (λ q. get_or (splice (i + j) ys xs) q d) (sym (add_assoc i j p)) ∙ get_or-splice_inside (i + j) ys xs p d hij below)))
@@ -118,7 +118,7 @@ module _ {A : Type 0} where
       let lw = length-window i n xs h in
       let ls = length-set (window i n xs) j x in
       let hs : i + length (set (window i n xs) j x) ≤ length xs = omega arith in
-      same_in_three i n (set xs (i + j) x) (splice i (set (window i n xs) j x) xs)
+      same_by_window i n (set xs (i + j) x) (splice i (set (window i n xs) j x) xs)
       (length-set xs (i + j) x ∙ sym (length-splice i (set (window i n xs) j x) xs hs))
       (λ k d before. get_or-set_other xs (i + j) k x d (omega arith) ∙ sym (get_or-splice_before i (set (window i n xs) j x) xs k d hs before))
       (λ m d below. inside m d below ∙ sym (get_or-splice_inside i (set (window i n xs) j x) xs m d hs (omega arith)))
@@ -138,7 +138,7 @@ module _ {A : Type 0} where
   splice-own i n xs h =
       let lw = length-window i n xs h in
       let hs : i + length (window i n xs) ≤ length xs = omega arith in
-      same_in_three i n (splice i (window i n xs) xs) xs (length-splice i (window i n xs) xs hs)
+      same_by_window i n (splice i (window i n xs) xs) xs (length-splice i (window i n xs) xs hs)
       (λ k d before. get_or-splice_before i (window i n xs) xs k d hs before)
       (λ m d below. get_or-splice_inside i (window i n xs) xs m d hs (omega arith) ∙ get_or-window i n xs m d below)
       (λ k d after. get_or-splice_after i (window i n xs) xs k d hs (omega arith))

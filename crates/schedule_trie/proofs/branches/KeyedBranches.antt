@@ -6,6 +6,7 @@ use Rattle.schedule_trie.specs.Trie.{SegmentOf, KeyedBranch, keyed_branch, branc
 use Rattle.schedule_trie.specs.TrieFields.{keyed_branches}
 use Rattle.std.specs.Prelude.{Option}
 
+-- branches have the names that they are made of
 pub names_on : {T : Type 0} (at : ℕ → Option (SegmentOf T)) (names paths : List (List ℕ)) → map name_of (branches_on at (keyed_branches names paths)) ≡ names
 names_on at [] paths = refl
 names_on at (n ∷ ns) [] = ap (λ l. n ∷ l) (names_on at ns [])

@@ -11,12 +11,13 @@ use Rattle.std.specs.Cmp.Lexicographic.{pointwise}
 use Rattle.std.proofs.lemmas.Option.{slice_get-map}
 use Rattle.schedule_trie.specs.Trie.{forest, segment_at, SegmentOf, KeyedBranch, line, slots_of, branches_on, keys_in, has, has_cell, Once, IsSegment, IsSoundTrie}
 use Rattle.lineage.specs.Family.{path_in}
-use Rattle.schedule_trie.specs.TrieFields.{names_of, trie_of, IsHeldTrie}
+use Rattle.schedule_trie.specs.TrieFields.{names_of, trie_of, IsWholeWithPaths}
 use Rattle.schedule_trie.proofs.branches.KeyedBranches.{names_on, length-keyed_branches, keys_in-keyed_branches}
 use Rattle.schedule_trie.proofs.lists.NoRepeats.{has-append, has-head, has-tail, Once-append, Once-bounded, has_not_from, Once-from_linked}
 use Rattle.branch_terms.specs.declared.limits.TheConstants.{MOST_CELLS_MADE}
 
 module _ {T : Type 0} (at : ℕ → Option (SegmentOf T)) where
+  -- a branch's cells are those of its line
   pub slots_in_on : (branches : List KeyedBranch) (i : ℕ) → slots_in (branches_on at branches) i ≡ line at (keys_in branches i)
   slots_in_on [] i = refl
   slots_in_on (s ∷ ss) zero = refl
@@ -25,6 +26,7 @@ module _ {T : Type 0} (at : ℕ → Option (SegmentOf T)) where
   pub line-drop : (ks : List ℕ) (i : ℕ) → i < length ks → line at (drop i ks) ≡ slots_of (at (get_or ks i 0)) ++ line at (drop (suc i) ks)
   line-drop ks i h = ap (line at) (drop-cons ks i 0 h)
 
+  -- a cell of a line is in the segment of one of its keys
   pub in_line : (x : ℕ) (ks : List ℕ) → has_cell x (line at ks) ≡ true → (k : ℕ) × (has k ks ≡ true) × (has_cell x (slots_of (at k)) ≡ true)
   in_line x [] h = absurd (true≢false (sym h))
   in_line x (k ∷ ks) h = by (has_cell x (slots_of (at k))) refl (in_line x ks)
@@ -88,17 +90,17 @@ module _ {T : Type 0} (t : Inside T) where
   pub name_is : (i : ℕ) → name_in (forest (trie_of t)).branches i ≡ option_map (λ e. e.0) (slice_get t.branches.entries i)
   name_is i = ap (λ l. slice_get l i) (names_on (segment_at (trie_of t).segments) (names_of t) t.segments.paths) ∙ slice_get-map (λ e. e.0) t.branches.entries i
 
-  pub keys_are : IsHeldTrie t → (i : ℕ) → keys_in (trie_of t).branches i ≡ path_in t.segments i
+  pub keys_are : IsWholeWithPaths t → (i : ℕ) → keys_in (trie_of t).branches i ≡ path_in t.segments i
   keys_are h i = keys_in-keyed_branches (names_of t) t.segments.paths i h.paths
 
-  pub path_within : IsHeldTrie t → (i : ℕ) → i < length (trie_of t).branches → i < length t.segments.paths
+  pub path_within : IsWholeWithPaths t → (i : ℕ) → i < length (trie_of t).branches → i < length t.segments.paths
   path_within h i inside = subst (λ n. i < n) (length-keyed_branches (names_of t) t.segments.paths ∙ sym h.paths) inside
 
-  pub line_fits : IsHeldTrie t → (i : ℕ) → length (line (segment_at (trie_of t).segments) (keys_in (trie_of t).branches i)) ≤ t.made
+  pub line_fits : IsWholeWithPaths t → (i : ℕ) → length (line (segment_at (trie_of t).segments) (keys_in (trie_of t).branches i)) ≤ t.made
   line_fits h i = sound_short (segment_at (trie_of t).segments) (trie_of t).branches t.made h.whole.sound i
 
   -- the keys of a branch, in terms of the fields
-  pub keys_by_fields : IsHeldTrie t → (i : ℕ) (keys : List ℕ) → keys ≡ path_in t.segments i
+  pub keys_by_fields : IsWholeWithPaths t → (i : ℕ) (keys : List ℕ) → keys ≡ path_in t.segments i
       → (keys ≡ keys_in (trie_of t).branches i) × (length (line (segment_at (trie_of t).segments) keys) ≤ (trie_of t).made) × ((trie_of t).made ≤ MOST_CELLS_MADE)
   keys_by_fields h i keys e =
       let same : keys_in (trie_of t).branches i ≡ keys = keys_are h i ∙ sym e in

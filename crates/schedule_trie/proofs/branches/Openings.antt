@@ -1,5 +1,5 @@
 -- A new trie, which has one branch and no cells.
-use Rattle.std.proofs.Common.{◌≡◌, ℕ, zero, suc, ◌<◌, Bool, List, [], ◌∷◌, ◌++◌, length, map, get_or, Option, None, refl, sym, ap, subst, ◌∙◌, true≢false, arith}
+use Rattle.std.proofs.Common.{◌≡◌, ℕ, zero, suc, Bool, List, [], ◌∷◌, ◌++◌, length, map, Option, None, refl, sym, ap, subst, ◌∙◌, true≢false, arith}
 use Rattle.std.specs.Map.{keys_of}
 use Rattle.indexmap.specs.IndexMap.{insert_entry}
 use Rattle.lineage.specs.Family.{Family, IsForked}
@@ -7,16 +7,18 @@ use Rattle.branch_terms.specs.declared.limits.Limits.{Limits}
 use Rattle.schedule_trie.specs.declared.trie.Trie.TheInside.{Inside}
 use Rattle.branch_terms.specs.Forest.{lone_branch}
 use Rattle.schedule_trie.specs.Trie.{TrieOf, keyed_branch, keys_in, has, Linked, IsWhole, IsCut, AreLimits, forest}
-use Rattle.schedule_trie.specs.TrieFields.{segment_of, keyed_branches, names_of, trie_of, IsHeldTrie}
-use Rattle.schedule_trie.proofs.forks.ForkSteps.{no_last}
+use Rattle.schedule_trie.specs.TrieFields.{segment_of, keyed_branches, names_of, trie_of, IsWholeWithPaths}
+use Rattle.schedule_trie.proofs.lists.LastKeys.{empty_from_no_last}
 use Rattle.schedule_trie.proofs.segments.StepSet.{cut_from_sound}
 
+-- adding a name to none gives one
 pub one_name : (eq : List ℕ → List ℕ → Bool) (es more : List (List ℕ × Option ℕ)) (name : List ℕ) (v : Option ℕ) → es ≡ [] → more ≡ insert_entry eq es name v
     → keys_of more ≡ name ∷ []
 one_name eq es more name v empty entries = ap keys_of entries ∙ ap (λ l. keys_of (insert_entry eq l name v)) empty
 
+-- forking an empty path when there is none gives one
 pub one_path : {X : Type 0} (old new : Family X) → old.paths ≡ [] → IsForked old new None → new.paths ≡ [] ∷ []
-one_path old new none forked = forked.paths ∙ ap (λ l. l ++ forked.path ∷ []) none ∙ ap (λ p. p ∷ []) (no_last forked.path forked.last)
+one_path old new none forked = forked.paths ∙ ap (λ l. l ++ forked.path ∷ []) none ∙ ap (λ p. p ∷ []) (empty_from_no_last forked.path forked.last)
 
 keys_in-lone : (name : List ℕ) (i : ℕ) → keys_in (keyed_branch name [] ∷ []) i ≡ []
 keys_in-lone name zero = refl
@@ -44,7 +46,7 @@ module _ {T : Type 0} (limits : Limits) (are : AreLimits limits) (name : List �
     };
   }
 
-  pub first_held : (t : Inside T) → names_of t ≡ name ∷ [] → t.segments.paths ≡ [] ∷ [] → t.segments.items ≡ [] → t.made ≡ 0 → t.limits ≡ limits → IsHeldTrie t
+  pub first_held : (t : Inside T) → names_of t ≡ name ∷ [] → t.segments.paths ≡ [] ∷ [] → t.segments.items ≡ [] → t.made ≡ 0 → t.limits ≡ limits → IsWholeWithPaths t
   first_held t names paths items made same =
       let e : trie_of t ≡ first = λ i. record { branches = keyed_branches (names i) (paths i); segments = map segment_of (items i); made = made i; limits = same i } in
       let many : length t.segments.paths ≡ length (names_of t) = ap length paths ∙ sym (ap length names) in
@@ -55,8 +57,3 @@ module _ {T : Type 0} (limits : Limits) (are : AreLimits limits) (name : List �
 
   pub first_cut : (t : Inside T) → names_of t ≡ name ∷ [] → t.segments.paths ≡ [] ∷ [] → t.segments.items ≡ [] → t.made ≡ 0 → t.limits ≡ limits → IsCut (trie_of t)
   first_cut t names paths items made same = cut_from_sound (trie_of t) t.made (first_held t names paths items made same).whole.sound
-
-pub get_or_own : {X : Type 0} (xs : List X) (i : ℕ) (d : X) → i < length xs → get_or xs i (get_or xs i d) ≡ get_or xs i d
-get_or_own [] i d h = absurd (omega arith)
-get_or_own (x ∷ xs) zero d h = refl
-get_or_own (x ∷ xs) (suc i) d h = get_or_own xs i d (omega arith)

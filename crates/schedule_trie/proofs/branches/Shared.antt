@@ -12,20 +12,14 @@ use Rattle.branch_terms.specs.declared.slot.Slot.{Slot}
 use Rattle.schedule_trie.specs.declared.trie.Trie.TheInside.{Inside}
 use Rattle.branch_terms.specs.Forest.{cell_of, slots_in, ShareUpTo, IsForest}
 use Rattle.schedule_trie.specs.Trie.{SegmentOf, KeyedBranch, forest, segment_at, slots_of, line, branches_on, keys_in, has_cell, Once, Linked, IsSoundTrie}
-use Rattle.schedule_trie.specs.TrieFields.{names_of, trie_of, IsHeldTrie}
+use Rattle.schedule_trie.specs.TrieFields.{names_of, trie_of, IsWholeWithPaths}
 use Rattle.schedule_trie.proofs.branches.Lines.{slots_in_on, once_at, given_at}
 use Rattle.schedule_trie.proofs.segments.Changes.{has_cell_get}
-use Rattle.schedule_trie.proofs.lists.Positions.{one_index, before_index}
+use Rattle.schedule_trie.proofs.lists.KeyIndices.{one_index, before_index}
 use Rattle.schedule_trie.proofs.branches.NamesApart.{branches_apart}
-use Rattle.schedule_trie.proofs.climbs.Climbs.{last_parts}
-use Rattle.schedule_trie.proofs.forks.ForkSteps.{no_last}
+use Rattle.schedule_trie.proofs.lists.LastKeys.{empty_from_no_last, last_of-parts}
 use Rattle.branch_terms.proofs.Lists.{slice_get_left, slice_get_right}
-
--- taking one more item adds the item at that index
-pub take-suc : {X : Type 0} (xs : List X) (n : ℕ) (x : X) → slice_get xs n ≡ Some x → take (suc n) xs ≡ take n xs ++ x ∷ []
-take-suc [] n x e = absurd (cc)
-take-suc (y ∷ xs) zero x e = let same : y ≡ x = cc in ap (λ z. z ∷ []) same
-take-suc (y ∷ xs) (suc n) x e = ap (λ l. y ∷ l) (take-suc xs n x e)
+use Rattle.schedule_trie.proofs.lists.ListParts.{take-suc_some}
 
 -- paths with a common key have the same keys before it
 pub same_before : (above : ℕ → Option ℕ) (xs ys : List ℕ) (n k : ℕ) → Linked above None xs → Linked above None ys → slice_get xs n ≡ Some k
@@ -37,7 +31,7 @@ same_before above xs ys (suc n) k a b e f =
     let both : Some p.0 ≡ Some q.0 = sym p.2 ∙ q.2 in
     let same : p.0 ≡ q.0 = cc in
     let there : slice_get ys n ≡ Some p.0 = q.1 ∙ ap Some (sym same) in
-    take-suc xs n p.0 p.1 ∙ ap (λ l. l ++ p.0 ∷ []) (same_before above xs ys n p.0 a b p.1 there) ∙ sym (take-suc ys n p.0 there)
+    take-suc_some xs n p.0 p.1 ∙ ap (λ l. l ++ p.0 ∷ []) (same_before above xs ys n p.0 a b p.1 there) ∙ sym (take-suc_some ys n p.0 there)
 
 -- the keys before a common key are the same
 pub same_front : (above : ℕ → Option ℕ) (f b g d : List ℕ) (k : ℕ) → Linked above None (f ++ k ∷ b) → Linked above None (g ++ k ∷ d) → f ≡ g
@@ -52,10 +46,10 @@ same_front above f b g d k lf lg =
 
 -- paths with the same last key are the same
 pub same_path : (above : ℕ → Option ℕ) (xs ys : List ℕ) (last : Option ℕ) → Linked above None xs → Linked above None ys → last_of xs ≡ last → last_of ys ≡ last → xs ≡ ys
-same_path above xs ys None lx ly ex ey = no_last xs ex ∙ sym (no_last ys ey)
+same_path above xs ys None lx ly ex ey = empty_from_no_last xs ex ∙ sym (empty_from_no_last ys ey)
 same_path above xs ys (Some k) lx ly ex ey =
-    let p = last_parts xs k ex in
-    let q = last_parts ys k ey in
+    let p = last_of-parts xs k ex in
+    let q = last_of-parts ys k ey in
     let front = same_front above p.0 [] q.0 [] k (subst (Linked above None) p.1 lx) (subst (Linked above None) q.1 ly) in
     p.1 ∙ ap (λ l. l ++ k ∷ []) front ∙ sym q.1
 
@@ -151,7 +145,7 @@ module _ {T : Type 0} (at : ℕ → Option (SegmentOf T)) where
         by (Some s) e = let p = lies_on i k s e in given_at at made sound.segments sound.apart p.key s.cell (has_cell_get (slots_of (at p.key)) p.offset s p.cell)
 
 -- a trie's forest satisfies `IsForest`, if no two of its names are equal
-pub is_forest : {T : Type 0} (t : Inside T) → IsHeldTrie t → IsDistinct (pointwise nat_eq) (names_of t) → IsForest (forest (trie_of t))
+pub is_forest : {T : Type 0} (t : Inside T) → IsWholeWithPaths t → IsDistinct (pointwise nat_eq) (names_of t) → IsForest (forest (trie_of t))
 is_forest t held unique = record {
   apart = branches_apart t unique;
   shared = shared_up_to (segment_at (trie_of t).segments) (trie_of t).branches t.made held.whole.sound;

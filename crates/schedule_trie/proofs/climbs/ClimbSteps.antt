@@ -4,17 +4,17 @@ use Rattle.std.proofs.lemmas.List.{length-append}
 use Rattle.lineage.specs.Family.{item_at, path_in, last_of}
 use Rattle.schedule_trie.specs.declared.trie.Trie.TheInside.{Inside}
 use Rattle.schedule_trie.specs.Trie.{TrieOf, SegmentOf, segment_at, slots_of, line, keys_in, above_of, has, Once, IsWhole}
-use Rattle.schedule_trie.specs.TrieFields.{trie_of, IsHeldTrie}
+use Rattle.schedule_trie.specs.TrieFields.{trie_of, IsWholeWithPaths}
 use Rattle.schedule_trie.proofs.lists.NoRepeats.{Once-from_linked, has-head, has-tail, has-in}
 use Rattle.schedule_trie.specs.Climbs.{keys_to, HasClimbedTo}
 use Rattle.schedule_trie.proofs.climbs.Climbs.{IsLast, IsStepUp, last_is, step_up, cells_up, shorter_up}
 use Rattle.schedule_trie.proofs.branches.Lines.{keys_are, line_fits, sound_short}
-use Rattle.schedule_trie.proofs.climbs.CellPlaces.{above_is, lacked_none}
+use Rattle.schedule_trie.proofs.climbs.KeysAbove.{above_is, lacked_none}
 use Rattle.schedule_trie.proofs.segments.StepSet.{item_there, none_there}
 use Rattle.schedule_trie.proofs.segments.TouchedSegments.{some_slots}
 use Rattle.branch_terms.specs.declared.limits.TheConstants.{MOST_CELLS_MADE}
 
-module _ {T : Type 0} (t : Inside T) (c : TrieOf T) (seen : trie_of t ≡ c) (held : IsHeldTrie t) (index : ℕ) where
+module _ {T : Type 0} (t : Inside T) (c : TrieOf T) (seen : trie_of t ≡ c) (held : IsWholeWithPaths t) (index : ℕ) where
   -- a path has no key twice
   path_once : Once (keys_in c.branches index)
   path_once =
@@ -78,7 +78,7 @@ few_keys at (k ∷ ks) h =
     let sum = length-append (slots_of (at k)) (line at ks) in
     omega (arith, rest, one, sum)
 
-pub path_few : {T : Type 0} (t : Inside T) → IsHeldTrie t → (i : ℕ) → length (keys_in (trie_of t).branches i) ≤ t.made
+pub path_few : {T : Type 0} (t : Inside T) → IsWholeWithPaths t → (i : ℕ) → length (keys_in (trie_of t).branches i) ≤ t.made
 path_few t held i =
     let at = segment_at (trie_of t).segments in
     let keys = keys_in (trie_of t).branches i in
@@ -88,7 +88,7 @@ path_few t held i =
     omega (arith, few, short)
 
 -- if `above` is right above `key` in each path that has `key`, then so it is in each branch
-module _ {T : Type 0} (t : Inside T) (c : TrieOf T) (seen : trie_of t ≡ c) (held : IsHeldTrie t) (key : ℕ) (above : Option ℕ) where
+module _ {T : Type 0} (t : Inside T) (c : TrieOf T) (seen : trie_of t ≡ c) (held : IsWholeWithPaths t) (key : ℕ) (above : Option ℕ) where
   -- `above` is the key right above `key` in each path that has `key`, or None if `key` is the first
   abbrev pub IsAbove : Type 0
   IsAbove = (i : ℕ) (front back : List ℕ) → path_in t.segments i ≡ front ++ key ∷ back → above ≡ last_of front
@@ -109,7 +109,7 @@ module _ {T : Type 0} (t : Inside T) (c : TrieOf T) (seen : trie_of t ≡ c) (he
       (λ lacks. none (none_there t key (lacked_none (segment_at (trie_of t).segments key) (trie_of t).branches key (held.whole.sound.live key) lacks))))
 
 -- a climb of a branch that finds no item has ended
-module _ {T : Type 0} (t : Inside T) (c : TrieOf T) (seen : trie_of t ≡ c) (held : IsHeldTrie t) where
+module _ {T : Type 0} (t : Inside T) (c : TrieOf T) (seen : trie_of t ≡ c) (held : IsWholeWithPaths t) where
   pub climb_has_ended : (at : Option ℕ) → ((k : ℕ) → at ≡ Some k → item_at t.segments k ≡ None) → (i : ℕ) → HasClimbedTo (keys_in c.branches i) at → at ≡ None
   climb_has_ended None none i reached = refl
   climb_has_ended (Some k) none i reached =

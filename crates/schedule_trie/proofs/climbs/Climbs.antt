@@ -3,7 +3,7 @@ use Rattle.std.proofs.Common.{◌≡◌, ℕ, suc, ◌+◌, ◌<◌, ◌≤◌, 
 use Rattle.std.proofs.lemmas.Bool.{eqb-true}
 use Rattle.std.proofs.lemmas.List.{length-append}
 use Rattle.std.specs.List.{position_or_len}
-use Rattle.lineage.specs.Family.{last_of, last_from}
+use Rattle.lineage.specs.Family.{last_of}
 use Rattle.branch_terms.specs.declared.slot.Slot.{Slot}
 use Rattle.branch_terms.specs.Forest.{cell_of, is_cell}
 use Rattle.schedule_trie.specs.Trie.{SegmentOf, slots_of, line, has, has_cell, Once, SpotHasCellAt, SpotIsAt}
@@ -13,8 +13,9 @@ use Rattle.schedule_trie.proofs.branches.Lines.{in_line}
 use Rattle.schedule_trie.proofs.edits.Pushes.{line-append}
 use Rattle.schedule_trie.proofs.lists.KeyPositions.{parting}
 use Rattle.std.proofs.lemmas.Bool.Decides.{nat_tests}
-use Rattle.schedule_trie.proofs.climbs.CellPlaces.{position_or_len-short, position_or_len-left, position_or_len-right, position_or_len-none, position_or_len-some, position-some, position-none}
+use Rattle.schedule_trie.proofs.lists.Searches.{position_or_len-short, position_or_len-left, position_or_len-right, position_or_len-none, position_or_len-some, position-some, position-none}
 use Rattle.branch_terms.proofs.Lists.{slice_get_left, slice_get_right, nat_eq_symmetric}
+use Rattle.schedule_trie.proofs.lists.LastKeys.{last_from-parts}
 
 -- if `front` lacks the key, the keys of the path down to the key are `front` and the key
 pub up_to-here : (key : ℕ) (front back : List ℕ) → has key front ≡ false → keys_up_to key (front ++ key ∷ back) ≡ front ++ key ∷ []
@@ -30,23 +31,11 @@ pub record IsLast (keys : List ℕ) (last : Option ℕ) : Type 0 where
   pub reached : HasClimbedTo keys last
   pub all : keys_to keys last ≡ keys
 
-pub last_some : (keys : List ℕ) (first key : ℕ) → (k : ℕ) × ((front : List ℕ) × ((last_from (Some first) keys ≡ Some k) × (first ∷ keys ≡ front ++ k ∷ [])))
-last_some [] first key = (first, ([], (refl, refl)))
-last_some (j ∷ js) first key = let p = last_some js j key in (p.0, (first ∷ p.1.0, (p.1.1.0, ap (λ l. first ∷ l) p.1.1.1)))
-
-pub last_parts : (keys : List ℕ) (key : ℕ) → last_of keys ≡ Some key → (front : List ℕ) × (keys ≡ front ++ key ∷ [])
-last_parts [] key e = absurd (cc)
-last_parts (k ∷ ks) key e =
-    let p = last_some ks k k in
-    let one : Some p.0 ≡ Some key = sym p.1.1.0 ∙ e in
-    let same : p.0 ≡ key = cc in
-    (p.1.0, p.1.1.1 ∙ ap (λ z. p.1.0 ++ z ∷ []) same)
-
 -- the keys down to the last of a front are that front
 pub front_is : (front back : List ℕ) → Once (front ++ back) → (keys_to (front ++ back) (last_of front) ≡ front) × HasClimbedTo (front ++ back) (last_of front)
 front_is [] back once = (refl, tt)
 front_is (f ∷ fs) back once =
-    let p = last_some fs f f in
+    let p = last_from-parts fs f f in
     let before = p.1.0 in
     let parts : (f ∷ fs) ++ back ≡ before ++ p.0 ∷ back = ap (λ l. l ++ back) p.1.1.1 ∙ append_assoc before (p.0 ∷ []) back in
     let lacks : has p.0 before ≡ false = once_before before p.0 back (subst Once parts once) in (

@@ -2,19 +2,19 @@
 use Rattle.std.proofs.Common.{◌≡◌, ℕ, ◌+◌, ◌<◌, ◌≤◌, Bool, true, false, cond, List, [], ◌∷◌, ◌++◌, length, map, get_or, Option, Some, None, refl, sym, ap, subst, ◌∙◌}
 use Rattle.std.proofs.lemmas.List.{length-set, get_or-set_same}
 use Rattle.lineage.specs.Family.{item_at, path_in, IsOnPath, IsExchanged, IsFamily}
-use Rattle.lineage.proofs.Chains.{map_on}
-use Rattle.lineage.proofs.KeyLists.{on_path}
+use Rattle.lineage.proofs.Maps.{map_on}
+use Rattle.lineage.proofs.KeyLists.{IsOnPath-from_has}
 use Rattle.schedule_trie.specs.declared.segment.Segment.{Segment}
 use Rattle.schedule_trie.specs.declared.trie.Trie.TheInside.{Inside}
 use Rattle.branch_terms.specs.Forest.{slots_in}
 use Rattle.schedule_trie.specs.Trie.{SegmentOf, segment_at, forest, line, keys_in, set_keys, has, Once, IsSoundTrie, branches_on}
-use Rattle.schedule_trie.specs.TrieFields.{segment_of, keyed_branches, names_of, trie_of, IsHeldTrie}
-use Rattle.schedule_trie.specs.changes.Copies.{AreCopies, IsDetached}
+use Rattle.schedule_trie.specs.TrieFields.{segment_of, keyed_branches, names_of, trie_of, IsWholeWithPaths}
+use Rattle.schedule_trie.specs.changes.Detaches.{AreCopies, IsDetached}
 use Rattle.schedule_trie.proofs.lists.NoRepeats.{has_not_from}
 use Rattle.schedule_trie.proofs.branches.Lines.{slots_in_on}
 use Rattle.schedule_trie.proofs.segments.StepSet.{segment_seen, cut_from_sound}
 use Rattle.schedule_trie.proofs.branches.KeyedBranches.{keys_in-keyed_branches, length-keyed_branches, keyed_branches-set, length-set_keys}
-use Rattle.schedule_trie.proofs.detaches.Released.{IsReleased, IsSoundBut, released_sound, released_branches, released_notes}
+use Rattle.schedule_trie.proofs.detaches.Released.{KeepsOnlyUsed, IsSoundWithUnused, released_sound, released_branches, released_notes}
 use Rattle.schedule_trie.proofs.detaches.Renumbered.{AreCopied, HaveValues, copied_from}
 use Rattle.schedule_trie.proofs.detaches.NewSegments.{old_kept, new_notes, new_apart, sound_with_new, only_renumbered}
 use Rattle.branch_terms.specs.declared.limits.TheConstants.{MOST_CELLS_MADE}
@@ -24,7 +24,7 @@ once_from : (keys : List ℕ) → ((k : ℕ) (front back front2 back2 : List ℕ
 once_from [] h = tt
 once_from (x ∷ xs) h = (
   has_not_from x xs (λ g.
-      let s : IsOnPath xs x = on_path x xs g in
+      let s : IsOnPath xs x = IsOnPath-from_has x xs g in
       let no : [] ≡ x ∷ s.front = h x [] xs (x ∷ s.front) s.back refl (ap (λ l. x ∷ l) s.is) in
       cc),
   once_from xs (λ k front back front2 back2 e f.
@@ -42,7 +42,7 @@ have_values at (k ∷ ks) (x ∷ xs) e =
     let rest : map at ks ≡ map Some xs = cc in
     (first, have_values at ks xs rest)
 
-module _ {T : Type 0} (t u : Inside T) (index len : ℕ) (copies : List (Segment T)) (held : IsHeldTrie t) (inside : index < length (trie_of t).branches)
+module _ {T : Type 0} (t u : Inside T) (index len : ℕ) (copies : List (Segment T)) (held : IsWholeWithPaths t) (inside : index < length (trie_of t).branches)
     (are : AreCopies (segment_at (trie_of t).segments) t.made (keys_in (trie_of t).branches index) copies)
     (exchanged : IsExchanged t.segments u.segments index copies) (family : IsFamily u.segments)
     (names : names_of u ≡ names_of t) (made : u.made ≡ t.made + len) (limits : u.limits ≡ t.limits)
@@ -98,7 +98,7 @@ module _ {T : Type 0} (t u : Inside T) (index len : ℕ) (copies : List (Segment
   keys : (i : ℕ) → keys_in (trie_of u).branches i ≡ path_in u.segments i
   keys i = keys_in-keyed_branches (names_of u) u.segments.paths i many
 
-  segments : IsReleased new (segment_at (trie_of u).segments) (trie_of u).branches
+  segments : KeepsOnlyUsed new (segment_at (trie_of u).segments) (trie_of u).branches
   segments = record {
     kept = λ i k h. segment_seen u k ∙ ap segment_of (kept i k (sym (ap (has k) (keys i)) ∙ h) (has k fresh_keys) refl);
     gone = λ k lacked. segment_seen u k ∙ ap segment_of (exchanged.gone k (λ i. sym (ap (has k) (keys i)) ∙ lacked i));
@@ -108,10 +108,10 @@ module _ {T : Type 0} (t u : Inside T) (index len : ℕ) (copies : List (Segment
       kept i k h true e = sym (put_fresh k e)
       kept i k h false e = exchanged.kept i k h e ∙ sym (put_other k e)
 
-  before : IsSoundBut new (trie_of u).branches u.made
+  before : IsSoundWithUnused new (trie_of u).branches u.made
   before =
-      subst (λ n. IsSoundBut new (trie_of u).branches n) (sym made)
-      (subst (λ l. IsSoundBut new l (t.made + len)) (sym branches)
+      subst (λ n. IsSoundWithUnused new (trie_of u).branches n) (sym made)
+      (subst (λ l. IsSoundWithUnused new l (t.made + len)) (sym branches)
       (sound_with_new at new (trie_of t).branches t.made (t.made + len) index fresh_keys held.whole.sound inside copied most vacant once others))
 
   sound : IsSoundTrie (segment_at (trie_of u).segments) (trie_of u).branches u.made
@@ -120,7 +120,7 @@ module _ {T : Type 0} (t u : Inside T) (index len : ℕ) (copies : List (Segment
   count : length (trie_of u).branches ≡ length (trie_of t).branches
   count = ap length branches ∙ length-set_keys (trie_of t).branches index fresh_keys
 
-  pub detach_held : t.made + len ≤ t.limits.cells → IsHeldTrie u
+  pub detach_held : t.made + len ≤ t.limits.cells → IsWholeWithPaths u
   detach_held room = record {
     whole = record {
       sound = sound;

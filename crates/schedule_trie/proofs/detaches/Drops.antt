@@ -3,15 +3,15 @@ use Rattle.std.proofs.Common.{◌≡◌, ℕ, zero, suc, ◌<◌, ◌≤◌, tru
 use Rattle.std.proofs.lemmas.List.Edits.{length-remove}
 use Rattle.std.specs.List.{remove}
 use Rattle.indexmap.proofs.SetLemmas.{map-remove}
-use Rattle.lineage.specs.Family.{path_in, IsReleased as IsReleasedIn}
+use Rattle.lineage.specs.Family.{path_in, IsReleased}
 use Rattle.std.specs.Map.{keys_of}
 use Rattle.schedule_trie.specs.declared.trie.Trie.TheInside.{Inside}
 use Rattle.schedule_trie.specs.Trie.{IsWithin, SegmentOf, KeyedBranch, segment_at, note_of, branch_on, branches_on, keys_in, has, Linked, IsSoundTrie}
-use Rattle.schedule_trie.specs.TrieFields.{segment_of, keyed_branches, names_of, trie_of, IsHeldTrie}
-use Rattle.schedule_trie.specs.changes.Releases.{IsDropped}
+use Rattle.schedule_trie.specs.TrieFields.{segment_of, keyed_branches, names_of, trie_of, IsWholeWithPaths}
+use Rattle.schedule_trie.specs.changes.Drops.{IsDropped}
 use Rattle.schedule_trie.proofs.branches.KeyedBranches.{keys_in-keyed_branches, length-keyed_branches, keyed_branches-remove}
 use Rattle.schedule_trie.proofs.segments.StepSet.{segment_seen, cut_from_sound, within_still}
-use Rattle.schedule_trie.proofs.detaches.Released.{IsReleased, IsSoundBut, released_sound, released_branches, released_notes}
+use Rattle.schedule_trie.proofs.detaches.Released.{KeepsOnlyUsed, IsSoundWithUnused, released_sound, released_branches, released_notes}
 
 -- each branch that is left was there before
 keys_left : (branches : List KeyedBranch) (index j : ℕ) → (i : ℕ) × (keys_in (remove branches index) j ≡ keys_in branches i)
@@ -22,7 +22,7 @@ keys_left (s ∷ ss) (suc index) zero = (0, refl)
 keys_left (s ∷ ss) (suc index) (suc j) = let p = keys_left ss index j in (suc p.0, p.1)
 
 module _ {T : Type 0} (at : ℕ → Option (SegmentOf T)) (branches : List KeyedBranch) (made index : ℕ) (sound : IsSoundTrie at branches made) where
-  pub left_sound : IsSoundBut at (remove branches index) made
+  pub left_sound : IsSoundWithUnused at (remove branches index) made
   left_sound = record {
     held = λ j k h. let p = keys_left branches index j in sound.held p.0 k (subst (λ l. has k l ≡ true) p.1 h);
     segments = sound.segments;
@@ -31,9 +31,9 @@ module _ {T : Type 0} (at : ℕ → Option (SegmentOf T)) (branches : List Keyed
   }
 
 -- dropping a branch, in terms of the fields
-module _ {T : Type 0} (t u : Inside T) (index : ℕ) (held : IsHeldTrie t) (inside : index < length (trie_of t).branches) (several : 1 < length (trie_of t).branches)
+module _ {T : Type 0} (t u : Inside T) (index : ℕ) (held : IsWholeWithPaths t) (inside : index < length (trie_of t).branches) (several : 1 < length (trie_of t).branches)
     (entries : u.branches.entries ≡ remove t.branches.entries index) (paths : u.segments.paths ≡ remove t.segments.paths index)
-    (items : IsReleasedIn t.segments u.segments) (made : u.made ≡ t.made) (limits : u.limits ≡ t.limits) where
+    (items : IsReleased t.segments u.segments) (made : u.made ≡ t.made) (limits : u.limits ≡ t.limits) where
   names : names_of u ≡ remove (names_of t) index
   names = ap keys_of entries ∙ map-remove (λ e. e.0) t.branches.entries index
 
@@ -53,16 +53,16 @@ module _ {T : Type 0} (t u : Inside T) (index : ℕ) (held : IsHeldTrie t) (insi
   keys : (i : ℕ) → keys_in (trie_of u).branches i ≡ path_in u.segments i
   keys i = keys_in-keyed_branches (names_of u) u.segments.paths i many
 
-  segments : IsReleased (segment_at (trie_of t).segments) (segment_at (trie_of u).segments) (trie_of u).branches
+  segments : KeepsOnlyUsed (segment_at (trie_of t).segments) (segment_at (trie_of u).segments) (trie_of u).branches
   segments = record {
     kept = λ i k h. segment_seen u k ∙ ap segment_of (items.kept i k (sym (ap (has k) (keys i)) ∙ h)) ∙ sym (segment_seen t k);
     gone = λ k lacked. segment_seen u k ∙ ap segment_of (items.gone k (λ i. sym (ap (has k) (keys i)) ∙ lacked i));
   }
 
-  before : IsSoundBut (segment_at (trie_of t).segments) (trie_of u).branches u.made
+  before : IsSoundWithUnused (segment_at (trie_of t).segments) (trie_of u).branches u.made
   before =
-      subst (λ n. IsSoundBut (segment_at (trie_of t).segments) (trie_of u).branches n) (sym made)
-      (subst (λ l. IsSoundBut (segment_at (trie_of t).segments) l t.made) (sym left)
+      subst (λ n. IsSoundWithUnused (segment_at (trie_of t).segments) (trie_of u).branches n) (sym made)
+      (subst (λ l. IsSoundWithUnused (segment_at (trie_of t).segments) l t.made) (sym left)
       (left_sound (segment_at (trie_of t).segments) (trie_of t).branches t.made index held.whole.sound))
 
   sound : IsSoundTrie (segment_at (trie_of u).segments) (trie_of u).branches u.made
@@ -71,7 +71,7 @@ module _ {T : Type 0} (t u : Inside T) (index : ℕ) (held : IsHeldTrie t) (insi
   count : length (trie_of u).branches + 1 ≡ length (trie_of t).branches
   count = ap (λ l. length l + 1) left ∙ length-remove (trie_of t).branches index inside
 
-  pub drop_held : IsHeldTrie u
+  pub drop_held : IsWholeWithPaths u
   drop_held = record {
     whole = record {
       sound = sound;

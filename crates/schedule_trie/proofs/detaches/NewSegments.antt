@@ -6,7 +6,7 @@ use Rattle.branch_terms.specs.Forest.{branch, renumbered, only_in}
 use Rattle.schedule_trie.specs.Trie.{SegmentOf, KeyedBranch, slots_of, note_of, line, branches_on, keys_in, set_keys, has, has_cell, Once, Linked, IsSegment, IsSoundTrie, before_key}
 use Rattle.schedule_trie.proofs.lists.NoRepeats.{has_not_from, has-head, has-tail}
 use Rattle.schedule_trie.proofs.branches.Lines.{given_at, IsSegment-weaker}
-use Rattle.schedule_trie.proofs.detaches.Released.{IsSoundBut, line_alike, branches_alike}
+use Rattle.schedule_trie.proofs.detaches.Released.{IsSoundWithUnused, line_alike, branches_alike}
 use Rattle.schedule_trie.proofs.detaches.Renumbered.{AreCopied, IsCopied, each_copied, apart_copied, line_copied}
 use Rattle.schedule_trie.proofs.branches.KeyedBranches.{keys_in-set_other, keys_in-set_same}
 
@@ -121,7 +121,7 @@ module _ {T : Type 0} (at new : ℕ → Option (SegmentOf T)) (branches : List K
           let was : has k (keys_in branches i) ≡ true = subst (λ l. has k l ≡ true) (keys_in-set_other branches index i keys (eqb-false i index e)) h in
           subst IsSome (sym (held_kept i k was)) (sound.held i k was)
 
-  pub sound_with_new : IsSoundBut new (set_keys branches index keys) more
+  pub sound_with_new : IsSoundWithUnused new (set_keys branches index keys) more
   sound_with_new = record {
     held = held_now;
     segments = segments;

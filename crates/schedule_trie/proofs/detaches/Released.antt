@@ -11,12 +11,12 @@ abbrev LackedByAll : List KeyedBranch → ℕ → Type 0
 LackedByAll branches key = (i : ℕ) → has key (keys_in branches i) ≡ false
 
 -- the segments of branches are unchanged, and those that no branch has are gone
-pub record IsReleased {X : Type 0} (old new : ℕ → Option X) (branches : List KeyedBranch) : Type 0 where
+pub record KeepsOnlyUsed {X : Type 0} (old new : ℕ → Option X) (branches : List KeyedBranch) : Type 0 where
   pub kept : (i k : ℕ) → has k (keys_in branches i) ≡ true → new k ≡ old k
   pub gone : (k : ℕ) → LackedByAll branches k → new k ≡ None
 
 -- a correct trie, except that segments may be on no branch
-pub record IsSoundBut {T : Type 0} (at : ℕ → Option (SegmentOf T)) (branches : List KeyedBranch) (made : ℕ) : Type 0 where
+pub record IsSoundWithUnused {T : Type 0} (at : ℕ → Option (SegmentOf T)) (branches : List KeyedBranch) (made : ℕ) : Type 0 where
   pub held : (i k : ℕ) → has k (keys_in branches i) ≡ true → IsSome (at k)
   pub segments : (k : ℕ) → IfSome (at k) (IsSegment made)
   pub apart : (j k x : ℕ) → has_cell x (slots_of (at j)) ≡ true → has_cell x (slots_of (at k)) ≡ true → j ≡ k
@@ -46,7 +46,7 @@ branches_alike old new [] h = refl
 branches_alike old new (s ∷ ss) h =
     λ i. branch s.name (line_alike old new s.keys (h 0) i) ∷ branches_alike old new ss (λ j. h (suc j)) i
 
-module _ {T : Type 0} (old new : ℕ → Option (SegmentOf T)) (branches : List KeyedBranch) (released : IsReleased old new branches) where
+module _ {T : Type 0} (old new : ℕ → Option (SegmentOf T)) (branches : List KeyedBranch) (released : KeepsOnlyUsed old new branches) where
   stays_or_goes : (k : ℕ) → (new k ≡ old k) ⊎ (new k ≡ None)
   stays_or_goes k = elim (held_or_lacked branches k) [ inl p ↦ inl (released.kept p.0 k p.1) | inr lacked ↦ inr (released.gone k lacked) ]
 
@@ -56,7 +56,7 @@ module _ {T : Type 0} (old new : ℕ → Option (SegmentOf T)) (branches : List 
     | inr e ↦ absurd (true≢false (sym (subst (λ o. has_cell x (slots_of o) ≡ true) e h)))
   ]
 
-  module _ (made : ℕ) (sound : IsSoundBut old branches made) where
+  module _ (made : ℕ) (sound : IsSoundWithUnused old branches made) where
     live : (k : ℕ) → IsSome (new k) → (i : ℕ) × (has k (keys_in branches i) ≡ true)
     live k h = elim (held_or_lacked branches k) [ inl p ↦ p | inr lacked ↦ absurd (true≢false (sym (subst IsSome (released.gone k lacked) h))) ]
 
@@ -81,7 +81,7 @@ module _ {T : Type 0} (old new : ℕ → Option (SegmentOf T)) (branches : List 
 -- a release keeps all notes, also if segments without notes (in `mid`) were added before it
 module _ {T : Type 0} (c d : TrieOf T) (mid : ℕ → Option (SegmentOf T))
     (apart : (j k x : ℕ) → has_cell x (slots_of (mid j)) ≡ true → has_cell x (slots_of (mid k)) ≡ true → j ≡ k)
-    (released : IsReleased mid (segment_at d.segments) d.branches) (kept : (k : ℕ) → IsSome (segment_at c.segments k) → mid k ≡ segment_at c.segments k)
+    (released : KeepsOnlyUsed mid (segment_at d.segments) d.branches) (kept : (k : ℕ) → IsSome (segment_at c.segments k) → mid k ≡ segment_at c.segments k)
     (fresh : (k : ℕ) → segment_at c.segments k ≡ None → note_of (mid k) ≡ None) where
   gone : (k : ℕ) → mid k ≡ segment_at c.segments k → segment_at d.segments k ≡ None → AreGone d (slots_of (segment_at c.segments k))
   gone k same none i x h = has_not_from x (map (λ s. s.cell) (slots_in (forest d).branches i)) (λ g.

@@ -8,7 +8,7 @@ use Rattle.schedule_trie.specs.declared.segment.Segment.{Segment}
 use Rattle.branch_terms.specs.Forest.{slot, step_of, cell_of, numbered, renumbered}
 use Rattle.schedule_trie.specs.Trie.{SegmentOf, segment, slots_of, note_of, line, has, has_cell, Once, IsSegment}
 use Rattle.schedule_trie.specs.TrieFields.{segment_of}
-use Rattle.schedule_trie.specs.changes.Copies.{AreCopies}
+use Rattle.schedule_trie.specs.changes.Detaches.{AreCopies}
 use Rattle.branch_terms.proofs.LimbLists.{length-numbered}
 use Rattle.schedule_trie.proofs.lists.NoRepeats.{has_cases, has_not_from, has-head, has-tail}
 use Rattle.schedule_trie.proofs.branches.Lines.{line-drop}

@@ -12,15 +12,15 @@ use Rattle.branch_terms.specs.declared.slot.Slot.{Slot}
 use Rattle.schedule_trie.specs.declared.segment.Segment.{Segment}
 use Rattle.schedule_trie.specs.declared.trie.Trie.TheInside.{Inside}
 use Rattle.branch_terms.specs.Forest.{slot, cell_of, slots_in, cell_in, only_in, put_last, put_before, everywhere, inserted}
-use Rattle.schedule_trie.specs.Trie.{TrieOf, SegmentOf, segment, segment_at, slots_of, note_of, forest, branches_on, keys_in, has, has_cell, Once, SpotHasCellAt, IsSegment, IsSoundTrie, IsWithin, IsWhole, HoldsCellAt, MayGrowAt, IsPushed, IsPutBefore, IsInserted, divided_branch, HasChanged, IsExtended}
+use Rattle.schedule_trie.specs.Trie.{TrieOf, SegmentOf, segment, segment_at, slots_of, note_of, forest, branches_on, keys_in, has, has_cell, Once, SpotHasCellAt, IsSegment, IsSoundTrie, IsWithin, IsWhole, HoldsCellAt, MayTouchAt, IsPushed, IsPutBefore, IsInserted, divided_branch, HasChanged, IsExtended}
 use Rattle.branch_terms.specs.declared.limits.Limits.{Limits}
-use Rattle.schedule_trie.specs.TrieFields.{segment_of, keyed_branches, names_of, trie_of, IsHeldTrie}
+use Rattle.schedule_trie.specs.TrieFields.{segment_of, keyed_branches, names_of, trie_of, IsWholeWithPaths}
 use Rattle.schedule_trie.proofs.branches.KeyedBranches.{keyed_branches-divided}
 use Rattle.schedule_trie.proofs.branches.Lines.{slots_in_on}
 use Rattle.schedule_trie.proofs.segments.Changes.{Changes, segment_at_set}
 use Rattle.schedule_trie.proofs.segments.StepSet.{segment_seen, key_within, cut_from_sound}
 use Rattle.schedule_trie.proofs.segments.CellHolders.{holds_cell, one_holder}
-use Rattle.schedule_trie.proofs.edits.Insertion.{put, grown_put, put_through, put_elsewhere, grown_once, grown_cells, sound_grown, branches_changed}
+use Rattle.schedule_trie.proofs.edits.Insertion.{put, with_cell_is_put, put_through, put_elsewhere, with_cell_once, with_cell_cells, sound_with_cell, branches_changed}
 use Rattle.schedule_trie.proofs.forks.Division.{Divides, lacked-divided, sound-divided, branches-divided, notes-divided}
 use Rattle.schedule_trie.proofs.forks.DivisionSteps.{divides_from}
 use Rattle.schedule_trie.proofs.segments.Notes.{notes_at, notes_but, unchanged_kept}
@@ -54,7 +54,7 @@ insert-back (x ∷ slots) (suc n) zero s short less = absurd (omega arith)
 insert-back (x ∷ slots) (suc n) (suc offset) s short less = ap (λ l. x ∷ l) (ap (λ o. take n slots ++ insert (drop n slots) o s) (omega arith) ∙ insert-back slots n offset s (omega arith) (omega arith))
 
 -- an insert in a segment that isn't full
-module _ {T : Type 0} (t : Inside T) (key offset : ℕ) (step : Step) (v w : Segment T) (held : IsHeldTrie t) (there : item_at t.segments key ≡ Some v)
+module _ {T : Type 0} (t : Inside T) (key offset : ℕ) (step : Step) (v w : Segment T) (held : IsWholeWithPaths t) (there : item_at t.segments key ≡ Some v)
     (inside : offset < length v.slots.items) (few : length v.slots.items < 128) (room : t.made < t.limits.cells)
     (slots : w.slots.items ≡ insert v.slots.items offset (slot t.made step)) (note : w.note ≡ None) where
   abbrev after : Inside T
@@ -85,18 +85,18 @@ module _ {T : Type 0} (t : Inside T) (key offset : ℕ) (step : Step) (v w : Seg
   len = ap length slots ∙ length-insert v.slots.items offset (slot t.made step) (omega arith)
 
   sound : IsSoundTrie new (trie_of t).branches (t.made + 1)
-  sound = sound_grown old new key now change (trie_of t).branches t.made held.whole.sound (subst IsSome (sym was) refl) (omega (arith, len)) (omega (arith, len))
-      (subst (λ l. Once (map cell_of l)) (sym grows) (grown_once old (trie_of t).branches t.made key offset step first.0 held.whole.sound first.1))
-      (λ x h. grown_cells old (trie_of t).branches t.made key offset step first.0 held.whole.sound first.1 x (subst (λ l. has_cell x l ≡ true) grows h))
+  sound = sound_with_cell old new key now change (trie_of t).branches t.made held.whole.sound (subst IsSome (sym was) refl) (omega (arith, len)) (omega (arith, len))
+      (subst (λ l. Once (map cell_of l)) (sym grows) (with_cell_once old (trie_of t).branches t.made key offset step first.0 held.whole.sound first.1))
+      (λ x h. with_cell_cells old (trie_of t).branches t.made key offset step first.0 held.whole.sound first.1 x (subst (λ l. has_cell x l ≡ true) grows h))
 
-  pub put_held : IsHeldTrie after
+  pub put_held : IsWholeWithPaths after
   put_held = record { whole = record { sound = sound; within = within_more t.limits t.made (length (trie_of t).branches) held.whole.within room }; paths = held.paths }
 
   pub is_put_before : IsPutBefore (trie_of t) (trie_of after) key offset step
   is_put_before = record {
     everywhere_put = λ s at_cell. branches_changed old new key now change (put old (trie_of t).branches t.made key offset step s held.whole.sound at_cell) refl
         (put_through old (trie_of t).branches t.made key offset step s held.whole.sound at_cell)
-        (grows ∙ grown_put old (trie_of t).branches t.made key offset step s held.whole.sound at_cell)
+        (grows ∙ with_cell_is_put old (trie_of t).branches t.made key offset step s held.whole.sound at_cell)
         (put_elsewhere old (trie_of t).branches t.made key offset step s held.whole.sound at_cell) (trie_of t).branches;
     made = refl;
     limits = refl;
@@ -138,7 +138,7 @@ module _ {T : Type 0} (old new : TrieOf T) (index place key offset : ℕ) (step 
     limits = put.limits;
     notes = λ name found.
         let here = holds_cell old name place index key offset found cell_there in
-        notes_but old new key (HoldsCellAt old name place) (MayGrowAt old new name place step) put.notes (λ k h. one_holder old name place k key sound h here) (inl here);
+        notes_but old new key (HoldsCellAt old name place) (MayTouchAt old new name place step) put.notes (λ k h. one_holder old name place k key sound h here) (inl here);
     unchanged = unchanged_kept old new put.notes.notes (λ k e. subst (HasChanged old new) (sym (put.notes.only k e)) put.changed);
     cut = put.cut;
   }
@@ -201,13 +201,13 @@ module _ {T : Type 0} (c d : TrieOf T) (key fresh offset : ℕ) (step : Step) (a
 
   cells : (x : ℕ) → has_cell x (above.slots ++ below.slots) ≡ true → (has_cell x (slots_of (segment_at c.segments key)) ≡ true) ⊎ ((c.made ≤ x) × (x < c.made + 1))
   cells x h =
-      elim (grown_cells (segment_at c.segments) c.branches c.made key offset step cut_cell.0 whole.sound cut_cell.1 x (subst (λ l. has_cell x l ≡ true) parts h)) [
+      elim (with_cell_cells (segment_at c.segments) c.branches c.made key offset step cut_cell.0 whole.sound cut_cell.1 x (subst (λ l. has_cell x l ≡ true) parts h)) [
         | inl g ↦ inl g
         | inr e ↦ inr (omega arith, omega arith)
       ]
 
   once : Once (map cell_of (above.slots ++ below.slots))
-  once = subst (λ l. Once (map cell_of l)) (sym parts) (grown_once (segment_at c.segments) c.branches c.made key offset step cut_cell.0 whole.sound cut_cell.1)
+  once = subst (λ l. Once (map cell_of l)) (sym parts) (with_cell_once (segment_at c.segments) c.branches c.made key offset step cut_cell.0 whole.sound cut_cell.1)
 
   sound_cut : IsSoundTrie (segment_at d.segments) (map (divided_branch key fresh) c.branches) (c.made + 1)
   sound_cut = sound-divided (segment_at c.segments) (segment_at d.segments) key fresh above below divides c.branches c.made (c.made + 1) whole.sound (omega arith)
@@ -236,7 +236,7 @@ module _ {T : Type 0} (c d : TrieOf T) (key fresh offset : ℕ) (step : Step) (a
         ∙ branches-divided (segment_at c.segments) (segment_at d.segments) key fresh above below divides
         (put (segment_at c.segments) c.branches c.made key offset step s whole.sound at_cell) refl
         (put_through (segment_at c.segments) c.branches c.made key offset step s whole.sound at_cell)
-        (parts ∙ grown_put (segment_at c.segments) c.branches c.made key offset step s whole.sound at_cell)
+        (parts ∙ with_cell_is_put (segment_at c.segments) c.branches c.made key offset step s whole.sound at_cell)
         (put_elsewhere (segment_at c.segments) c.branches c.made key offset step s whole.sound at_cell) c.branches lacked;
     made = made;
     limits = limits;
@@ -253,7 +253,7 @@ unnoted slots = record { slots = slots; note = None }
 
 -- an insert in a full segment, in terms of the fields
 module _ {T : Type 0} (t d : Inside T) (view : TrieOf T) (view_is : trie_of t ≡ view) (mid : Family (Segment T)) (key fresh offset : ℕ) (step : Step)
-    (above below : Vec Slot) (v w : Segment T) (cells : List Slot) (held : IsHeldTrie t) (cells_are : cells ≡ slots_of (segment_at view.segments key))
+    (above below : Vec Slot) (v w : Segment T) (cells : List Slot) (held : IsWholeWithPaths t) (cells_are : cells ≡ slots_of (segment_at view.segments key))
     (added : IsAdded t.segments mid fresh (unnoted above)) (there : item_at mid key ≡ Some v) (after : d.segments.items ≡ set mid.items key (Some w))
     (items : w.slots ≡ below) (note : w.note ≡ None) (paths : d.segments.paths ≡ map (divided_keys key fresh) t.segments.paths)
     (names : names_of d ≡ names_of t) (made : d.made ≡ t.made + 1) (limits : d.limits ≡ t.limits)
@@ -283,14 +283,14 @@ module _ {T : Type 0} (t d : Inside T) (view : TrieOf T) (view_is : trie_of t �
   parts_before : above.items ++ below.items ≡ insert (slots_of (segment_at (trie_of t).segments key)) offset (slot t.made step)
   parts_before = parts ∙ ap (λ l. insert l offset (slot t.made step)) (cells_are ∙ seen)
 
-  held_divided : IsHeldTrie d
+  held_divided : IsWholeWithPaths d
   held_divided = record {
     whole = cut_whole (trie_of t) (trie_of d) key fresh offset step (segment above.items None) (segment below.items None) held.whole divides same_branches made limits
         room_before inside_before full_before parts_before least most refl refl;
     paths = many;
   }
 
-  pub divided : IsHeldTrie d × IsPutBefore (trie_of t) (trie_of d) key offset step
+  pub divided : IsWholeWithPaths d × IsPutBefore (trie_of t) (trie_of d) key offset step
   divided = (
     held_divided,
     is_put_after_cut (trie_of t) (trie_of d) key fresh offset step (segment above.items None) (segment below.items None) held.whole divides same_branches made limits

@@ -10,7 +10,7 @@ use Rattle.branch_terms.specs.Forest.{slot, cell_of, before_cell, put_before, ev
 use Rattle.schedule_trie.specs.Trie.{SegmentOf, KeyedBranch, slots_of, branches_on, has, has_cell, Once, IsSoundTrie}
 use Rattle.schedule_trie.proofs.lists.NoRepeats.{has-head, has-tail, has_cases, has_not_from}
 use Rattle.schedule_trie.proofs.branches.Lines.{once_at, given_at}
-use Rattle.schedule_trie.proofs.segments.Changes.{absent_by, Changes, there-changed, line_through, everywhere_on, has_cell_get}
+use Rattle.schedule_trie.proofs.segments.Changes.{absent_by, cell_apart, Changes, there-changed, line_through, everywhere_on, has_cell_get}
 use Rattle.schedule_trie.proofs.edits.Pushes.{segments_more, apart_more}
 
 -- a number in a list after an insert was there before, or is the inserted one
@@ -51,12 +51,7 @@ inserted-at (z ∷ zs) zero s new once e =
     sym (ap (λ b. cond b (new ∷ z ∷ []) (z ∷ []) ++ put_before s.cell new zs) (eq-eqb z.cell s.cell cells)
     ∙ ap (λ l. new ∷ z ∷ l) (put_before-absent s.cell new zs (subst (λ x. has_cell x zs ≡ false) cells once.0)))
 inserted-at (z ∷ zs) (suc i) s new once e =
-    let other : nat_eq z.cell s.cell ≡ false = apart (nat_eq z.cell s.cell) refl in
-    sym (ap (λ b. cond b (new ∷ z ∷ []) (z ∷ []) ++ put_before s.cell new zs) other ∙ ap (λ l. z ∷ l) (sym (inserted-at zs i s new once.1 e)))
-  where
-    apart : (b : Bool) → nat_eq z.cell s.cell ≡ b → nat_eq z.cell s.cell ≡ false
-    apart true f = absurd (true≢false (sym (subst (λ x. has_cell x zs ≡ true) (sym (eqb-true z.cell s.cell f)) (has_cell_get zs i s e)) ∙ once.0))
-    apart false f = f
+    sym (ap (λ b. cond b (new ∷ z ∷ []) (z ∷ []) ++ put_before s.cell new zs) (cell_apart z zs i s once.0 e) ∙ ap (λ l. z ∷ l) (sym (inserted-at zs i s new once.1 e)))
 
 -- the cells of a segment, with a new one before one of them
 module _ {T : Type 0} (old : ℕ → Option (SegmentOf T)) (branches : List KeyedBranch) (made key offset : ℕ) (step : Step) (s : Slot)
@@ -64,11 +59,11 @@ module _ {T : Type 0} (old : ℕ → Option (SegmentOf T)) (branches : List Keye
   abbrev pub put : List Slot → List Slot
   put slots = put_before s.cell (slot made step) slots
 
-  abbrev pub grown : List Slot
-  grown = insert (slots_of (old key)) offset (slot made step)
+  abbrev pub with_cell : List Slot
+  with_cell = insert (slots_of (old key)) offset (slot made step)
 
-  pub grown_put : grown ≡ put (slots_of (old key))
-  grown_put = inserted-at (slots_of (old key)) offset s (slot made step) (once_at old made sound.segments sound.apart key) at_cell
+  pub with_cell_is_put : with_cell ≡ put (slots_of (old key))
+  with_cell_is_put = inserted-at (slots_of (old key)) offset s (slot made step) (once_at old made sound.segments sound.apart key) at_cell
 
   pub put_through : (xs ys : List Slot) → put (xs ++ ys) ≡ put xs ++ put ys
   put_through xs ys = flat_map-append (before_cell s.cell (slot made step)) xs ys
@@ -78,23 +73,23 @@ module _ {T : Type 0} (old : ℕ → Option (SegmentOf T)) (branches : List Keye
       put_before-absent s.cell (slot made step) (slots_of (old j)) (has_not_from s.cell (map cell_of (slots_of (old j)))
       (λ h. ne (sound.apart j key s.cell h (has_cell_get (slots_of (old key)) offset s at_cell))))
 
-  cells_are : map cell_of grown ≡ insert (map cell_of (slots_of (old key))) offset made
+  cells_are : map cell_of with_cell ≡ insert (map cell_of (slots_of (old key))) offset made
   cells_are = map-insert cell_of (slots_of (old key)) offset (slot made step)
 
-  pub grown_once : Once (map cell_of grown)
-  grown_once =
+  pub with_cell_once : Once (map cell_of with_cell)
+  with_cell_once =
       subst Once (sym cells_are) (Once-inserted made (map cell_of (slots_of (old key))) offset (once_at old made sound.segments sound.apart key)
       (has_not_from made (map cell_of (slots_of (old key))) (λ h. let l : made < made = given_at old made sound.segments sound.apart key made h in omega arith)))
 
-  pub grown_cells : (x : ℕ) → has_cell x grown ≡ true → (has_cell x (slots_of (old key)) ≡ true) ⊎ (x ≡ made)
-  grown_cells x h = has-inserted x made (map cell_of (slots_of (old key))) offset (subst (λ l. has x l ≡ true) cells_are h)
+  pub with_cell_cells : (x : ℕ) → has_cell x with_cell ≡ true → (has_cell x (slots_of (old key)) ≡ true) ⊎ (x ≡ made)
+  with_cell_cells x h = has-inserted x made (map cell_of (slots_of (old key))) offset (subst (λ l. has x l ≡ true) cells_are h)
 
 -- the trie is still correct once the segment at `key` has the new cell
 module _ {T : Type 0} (old new : ℕ → Option (SegmentOf T)) (key : ℕ) (q : SegmentOf T) (change : Changes old new key q) (branches : List KeyedBranch) (made : ℕ)
     (sound : IsSoundTrie old branches made) (was : IsSome (old key)) (some : 0 < length q.slots) (few : length q.slots ≤ 128) (once : Once (map cell_of q.slots))
     (cells : (x : ℕ) → has_cell x q.slots ≡ true → (has_cell x (slots_of (old key)) ≡ true) ⊎ (x ≡ made)) where
-  pub sound_grown : IsSoundTrie new branches (made + 1)
-  sound_grown = record {
+  pub sound_with_cell : IsSoundTrie new branches (made + 1)
+  sound_with_cell = record {
     held = λ i k h. there-changed old new key q change k (sound.held i k h);
     segments = segments_more old new key q change branches made sound some few once cells;
     apart = apart_more old new key q change branches made sound some few once cells;

@@ -8,11 +8,11 @@ use Rattle.schedule_trie.specs.declared.segment.Segment.{Segment}
 use Rattle.schedule_trie.specs.declared.trie.Trie.TheInside.{Inside}
 use Rattle.branch_terms.specs.Forest.{slot}
 use Rattle.schedule_trie.specs.Trie.{segment, segment_at, slots_of, note_of, line, keys_in, set_keys, has, Linked, SharesAbove, IsExtendedEnd, IsPushed}
-use Rattle.schedule_trie.specs.TrieFields.{segment_of, keyed_branches, names_of, trie_of, IsHeldTrie}
+use Rattle.schedule_trie.specs.TrieFields.{segment_of, keyed_branches, names_of, trie_of, IsWholeWithPaths}
 use Rattle.schedule_trie.proofs.lists.NoRepeats.{has_not_from}
 use Rattle.schedule_trie.proofs.segments.Changes.{Changes}
 use Rattle.schedule_trie.proofs.segments.Notes.{notes_with_new}
-use Rattle.schedule_trie.proofs.branches.Whole.{whole_pushed, is_pushed}
+use Rattle.schedule_trie.proofs.edits.PushedWhole.{whole_pushed, is_pushed}
 use Rattle.schedule_trie.proofs.edits.PushSteps.{has_before_last}
 use Rattle.schedule_trie.proofs.segments.StepSet.{segment_seen}
 use Rattle.schedule_trie.proofs.branches.KeyedBranches.{keyed_branches-set, keys_in-keyed_branches, keys_in-set_other, keys_in-set_same}
@@ -41,17 +41,17 @@ linked_last above key v up (k ∷ ks) e h l = by (nat_eq key k) refl (linked_las
     by false f rest = (ap (λ b. cond b v (above k)) f ∙ l.0, rest (sym (ap (λ c. c || has key ks) f) ∙ h) l.1)
 
 -- a push as a new segment
-module _ {T : Type 0} (t grown : Inside T) (index key : ℕ) (s : Segment T) (step : Step) (held : IsHeldTrie t) (index_in : index < length (trie_of t).branches)
-    (room : t.made < t.limits.cells) (added : IsAdded t.segments grown.segments key s)
-    (paths : grown.segments.paths ≡ set t.segments.paths index (path_in t.segments index ++ key ∷ [])) (names : names_of grown ≡ names_of t)
-    (made : grown.made ≡ t.made + 1) (limits : grown.limits ≡ t.limits) (one : s.slots.items ≡ slot t.made step ∷ []) (note : s.note ≡ None) where
+module _ {T : Type 0} (t after : Inside T) (index key : ℕ) (s : Segment T) (step : Step) (held : IsWholeWithPaths t) (index_in : index < length (trie_of t).branches)
+    (room : t.made < t.limits.cells) (added : IsAdded t.segments after.segments key s)
+    (paths : after.segments.paths ≡ set t.segments.paths index (path_in t.segments index ++ key ∷ [])) (names : names_of after ≡ names_of t)
+    (made : after.made ≡ t.made + 1) (limits : after.limits ≡ t.limits) (one : s.slots.items ≡ slot t.made step ∷ []) (note : s.note ≡ None) where
   none : segment_at (trie_of t).segments key ≡ None
   none = segment_seen t key ∙ ap segment_of added.was_vacant
 
-  change : Changes (segment_at (trie_of t).segments) (segment_at (trie_of grown).segments) key (segment s.slots.items s.note)
+  change : Changes (segment_at (trie_of t).segments) (segment_at (trie_of after).segments) key (segment s.slots.items s.note)
   change = record {
-    here = segment_seen grown key ∙ ap segment_of added.here;
-    others = λ j ne. segment_seen grown j ∙ ap segment_of (added.others j ne) ∙ sym (segment_seen t j);
+    here = segment_seen after key ∙ ap segment_of added.here;
+    others = λ j ne. segment_seen after j ∙ ap segment_of (added.others j ne) ∙ sym (segment_seen t j);
   }
 
   lacked : (j : ℕ) → has key (keys_in (trie_of t).branches j) ≡ false
@@ -60,7 +60,7 @@ module _ {T : Type 0} (t grown : Inside T) (index key : ℕ) (s : Segment T) (st
   slots : s.slots.items ≡ slots_of (segment_at (trie_of t).segments key) ++ slot t.made step ∷ []
   slots = one ∙ sym (ap (λ o. slots_of o ++ slot t.made step ∷ []) none)
 
-  branches : (trie_of grown).branches ≡ set_keys (trie_of t).branches index (keys_in (trie_of t).branches index ++ key ∷ [])
+  branches : (trie_of after).branches ≡ set_keys (trie_of t).branches index (keys_in (trie_of t).branches index ++ key ∷ [])
   branches =
       (λ i. keyed_branches (names i) (paths i))
       ∙ keyed_branches-set (names_of t) t.segments.paths index (path_in t.segments index ++ key ∷ []) held.paths
@@ -70,14 +70,14 @@ module _ {T : Type 0} (t grown : Inside T) (index key : ℕ) (s : Segment T) (st
       ≡ line (segment_at (trie_of t).segments) (keys_in (trie_of t).branches index) ++ slots_of (segment_at (trie_of t).segments key)
   was = sym (ap (λ o. line (segment_at (trie_of t).segments) (keys_in (trie_of t).branches index) ++ slots_of o) none ∙ append-nil (line (segment_at (trie_of t).segments) (keys_in (trie_of t).branches index)))
 
-  shares : SharesAbove (trie_of grown).branches
+  shares : SharesAbove (trie_of after).branches
   shares = record { above = above_with held.whole.sound.shares.above key (last_from None (keys_in (trie_of t).branches index)); linked = λ i. linked_at i (nat_eq i index) refl }
     where
       linked_at : (i : ℕ) (b : Bool) → nat_eq i index ≡ b
-          → Linked (above_with held.whole.sound.shares.above key (last_from None (keys_in (trie_of t).branches index))) None (keys_in (trie_of grown).branches i)
+          → Linked (above_with held.whole.sound.shares.above key (last_from None (keys_in (trie_of t).branches index))) None (keys_in (trie_of after).branches i)
       linked_at i true e =
           subst (Linked (above_with held.whole.sound.shares.above key (last_from None (keys_in (trie_of t).branches index))) None)
-          (sym (ap (keys_in (trie_of grown).branches) (eqb-true i index e) ∙ ap (λ l. keys_in l index) branches
+          (sym (ap (keys_in (trie_of after).branches) (eqb-true i index e) ∙ ap (λ l. keys_in l index) branches
           ∙ keys_in-set_same (trie_of t).branches index (keys_in (trie_of t).branches index ++ key ∷ []) index_in))
           (linked_last held.whole.sound.shares.above key (last_from None (keys_in (trie_of t).branches index)) None (keys_in (trie_of t).branches index) refl (lacked index) (held.whole.sound.shares.linked index))
       linked_at i false e =
@@ -89,17 +89,17 @@ module _ {T : Type 0} (t grown : Inside T) (index key : ℕ) (s : Segment T) (st
   few : length (slots_of (segment_at (trie_of t).segments key)) < 128
   few = subst (λ o. length (slots_of o) < 128) (sym none) (omega arith)
 
-  many : length grown.segments.paths ≡ length (names_of grown)
+  many : length after.segments.paths ≡ length (names_of after)
   many = ap length paths ∙ length-set t.segments.paths index (path_in t.segments index ++ key ∷ []) ∙ held.paths ∙ sym (ap length names)
 
-  pub segment_held : IsHeldTrie grown
-  segment_held = record {
-    whole = whole_pushed (trie_of t) (trie_of grown) index key step (keys_in (trie_of t).branches index) (segment s.slots.items s.note) held.whole room change note slots few made limits branches index_in was
+  pub push_segment_held : IsWholeWithPaths after
+  push_segment_held = record {
+    whole = whole_pushed (trie_of t) (trie_of after) index key step (keys_in (trie_of t).branches index) (segment s.slots.items s.note) held.whole room change note slots few made limits branches index_in was
         (λ k h. has_before_last k key (keys_in (trie_of t).branches index) h) (λ k h. h) (lacked index) (λ j ne. lacked j) shares;
     paths = many;
   }
 
-  pub segment_pushed : IsPushed (trie_of t) (trie_of grown) index step
-  segment_pushed = is_pushed (trie_of t) (trie_of grown) index key step (keys_in (trie_of t).branches index) (segment s.slots.items s.note) held.whole room change note slots few made limits branches index_in was
+  pub push_segment_pushed : IsPushed (trie_of t) (trie_of after) index step
+  push_segment_pushed = is_pushed (trie_of t) (trie_of after) index key step (keys_in (trie_of t).branches index) (segment s.slots.items s.note) held.whole room change note slots few made limits branches index_in was
       (λ k h. has_before_last k key (keys_in (trie_of t).branches index) h) (λ k h. h) (lacked index) (λ j ne. lacked j) shares
-      (notes_with_new (trie_of t) (trie_of grown) key change.others (ap note_of change.here ∙ note) (IsExtendedEnd (trie_of t) (trie_of grown) index step) none)
+      (notes_with_new (trie_of t) (trie_of after) key change.others (ap note_of change.here ∙ note) (IsExtendedEnd (trie_of t) (trie_of after) index step) none)

@@ -13,7 +13,8 @@ use Rattle.branch_terms.proofs.Lists.{nat_eq_symmetric}
 use Rattle.schedule_trie.proofs.lists.NoRepeats.{has_not_from, has-head, has-tail, has_cases}
 use Rattle.schedule_trie.proofs.segments.Changes.{line_through, everywhere_on, cell_apart, has_cell_get}
 use Rattle.schedule_trie.proofs.branches.Lines.{once_at, given_at}
-use Rattle.schedule_trie.proofs.lists.PathsWithout.{keys_in-without, has_from_without, has_other, has-without, past, linked_without}
+use Rattle.schedule_trie.proofs.lists.PathsWithout.{keys_in-without, has_from_without, has-without_own, above_past, linked_without}
+use Rattle.lineage.proofs.SkippedClimbs.{has-without_other}
 
 -- removing a cell that isn't there changes nothing
 pub without-absent : (x : ℕ) (slots : List Slot) → has_cell x slots ≡ false → without x slots ≡ slots
@@ -162,20 +163,20 @@ module _ {T : Type 0} (old new : ℕ → Option (SegmentOf T)) (key offset : ℕ
       apart = apart_still;
       live = λ k h. let ne = not_key k h in
           let p = sound.live k (subst IsSome (others k ne) h) in
-          (p.0, subst (λ l. has k l ≡ true) (sym (keys_in-without key branches p.0)) (has_other key k ne (keys_in branches p.0) p.1));
+          (p.0, subst (λ l. has k l ≡ true) (sym (keys_in-without key branches p.0)) (has-without_other key None k (keys_in branches p.0) ne p.1));
       shares = record {
-        above = λ k. past sound.shares.above key (sound.shares.above k);
+        above = λ k. above_past sound.shares.above key (sound.shares.above k);
         linked = λ i. subst (λ l. Linked_at l) (sym (keys_in-without key branches i)) (linked_without sound.shares.above key None (keys_in branches i) (sound.shares.linked i));
       };
     }
       where
         Linked_at : List ℕ → Type 0
-        Linked_at = Linked (λ k. past sound.shares.above key (sound.shares.above k)) None
+        Linked_at = Linked (λ k. above_past sound.shares.above key (sound.shares.above k)) None
 
         held : (i k : ℕ) → has k (keys_in (map (branch_without key) branches) i) ≡ true → IsSome (new k)
         held i k h =
             let left : has k (keys_without key (keys_in branches i)) ≡ true = subst (λ l. has k l ≡ true) (keys_in-without key branches i) h in
-            let ne : k ≡ key → ⊥ = λ e. true≢false (sym (subst (λ z. has z (keys_without key (keys_in branches i)) ≡ true) e left) ∙ has-without key (keys_in branches i)) in
+            let ne : k ≡ key → ⊥ = λ e. true≢false (sym (subst (λ z. has z (keys_without key (keys_in branches i)) ≡ true) e left) ∙ has-without_own key (keys_in branches i)) in
             subst IsSome (sym (others k ne)) (sound.held i k (has_from_without key k (keys_in branches i) left))
 
         segment_at : (k : ℕ) (b : Bool) → nat_eq k key ≡ b → IfSome (new k) (IsSegment made)

@@ -8,7 +8,7 @@ use Rattle.schedule_trie.specs.declared.segment.Segment.{Segment}
 use Rattle.schedule_trie.specs.declared.trie.Trie.TheInside.{Inside}
 use Rattle.branch_terms.specs.Forest.{without, remove_cell, index_of}
 use Rattle.schedule_trie.specs.Trie.{IsWithin, TrieOf, segment, segment_at, slots_of, note_of, forest, branches_on, keys_in, keys_without, branch_without, SpotHasCellAt, IsSoundTrie, IsRemoved}
-use Rattle.schedule_trie.specs.TrieFields.{segment_of, keyed_branches, names_of, trie_of, IsHeldTrie}
+use Rattle.schedule_trie.specs.TrieFields.{segment_of, keyed_branches, names_of, trie_of, IsWholeWithPaths}
 use Rattle.schedule_trie.proofs.branches.KeyedBranches.{keyed_branches-without}
 use Rattle.schedule_trie.proofs.segments.Notes.{notes_at}
 use Rattle.schedule_trie.proofs.segments.StepSet.{IsStoredAt, is_stored_at, with_segment, within_still, segment_seen, cut_from_sound, command_at, the_cell}
@@ -16,7 +16,7 @@ use Rattle.schedule_trie.proofs.edits.Removals.{gone_everywhere, sound_within, g
 use Rattle.branch_terms.proofs.Lists.{slice_get_some}
 
 -- removing a cell of a segment that has other cells
-module _ {T : Type 0} (t : Inside T) (key offset : ℕ) (v w : Segment T) (held : IsHeldTrie t) (there : item_at t.segments key ≡ Some v)
+module _ {T : Type 0} (t : Inside T) (key offset : ℕ) (v w : Segment T) (held : IsWholeWithPaths t) (there : item_at t.segments key ≡ Some v)
     (inside : offset < length (slots_of (segment_at (trie_of t).segments key))) (more : 1 < length (slots_of (segment_at (trie_of t).segments key)))
     (slots : w.slots.items ≡ remove v.slots.items offset) (note : w.note ≡ None) where
   abbrev after : Inside T
@@ -35,7 +35,7 @@ module _ {T : Type 0} (t : Inside T) (key offset : ℕ) (v w : Segment T) (held 
   sound = sound_within (segment_at (trie_of t).segments) (segment_at (trie_of after).segments) key offset first.0 (trie_of t).branches t.made held.whole.sound here seen.change.others first.1
       (segment v.slots.items v.note) (segment w.slots.items w.note) seen.was seen.change.here more
 
-  pub within_held : IsHeldTrie after
+  pub within_held : IsWholeWithPaths after
   within_held = record { whole = record { sound = sound; within = held.whole.within }; paths = held.paths }
 
   pub is_removed_within : IsRemoved (trie_of t) (trie_of after) key offset
@@ -53,7 +53,7 @@ removed_all (s ∷ []) h = refl
 removed_all (s ∷ z ∷ zs) h = absurd (omega arith)
 
 -- removing a segment with its only cell
-module _ {T : Type 0} (t u : Inside T) (key : ℕ) (held : IsHeldTrie t) (one : length (slots_of (segment_at (trie_of t).segments key)) ≡ 1)
+module _ {T : Type 0} (t u : Inside T) (key : ℕ) (held : IsWholeWithPaths t) (one : length (slots_of (segment_at (trie_of t).segments key)) ≡ 1)
     (none : item_at u.segments key ≡ None) (kept : (j : ℕ) → (j ≡ key → ⊥) → item_at u.segments j ≡ item_at t.segments j)
     (paths : u.segments.paths ≡ map (keys_without key) t.segments.paths) (names : names_of u ≡ names_of t)
     (made : u.made ≡ t.made) (limits : u.limits ≡ t.limits) where
@@ -84,7 +84,7 @@ module _ {T : Type 0} (t u : Inside T) (key : ℕ) (held : IsHeldTrie t) (one : 
   count : length (trie_of u).branches ≡ length (trie_of t).branches
   count = ap length branches ∙ length-map (trie_of t).branches (branch_without key)
 
-  pub gone_held : IsHeldTrie u
+  pub gone_held : IsWholeWithPaths u
   gone_held = record {
     whole = record {
       sound = sound_rest;

@@ -5,7 +5,7 @@ use Rattle.std.proofs.lemmas.Bool.{eqb-true, eqb-false}
 use Rattle.std.proofs.lemmas.List.{map-append}
 use Rattle.branch_terms.specs.declared.slot.Slot.{Slot}
 use Rattle.branch_terms.specs.Forest.{branch, cell_of, everywhere}
-use Rattle.schedule_trie.specs.Trie.{TrieOf, SegmentOf, KeyedBranch, segment_at, slots_of, note_of, line, branches_on, keys_in, has, has_cell, Once, Linked, IsSegment, IsSoundTrie, KeepsNotesOff, divided_keys, divided_branch}
+use Rattle.schedule_trie.specs.Trie.{TrieOf, SegmentOf, KeyedBranch, segment_at, slots_of, note_of, line, branches_on, keys_in, has, has_cell, Once, Linked, IsSegment, IsSoundTrie, KeepsNotesExcept, divided_keys, divided_branch}
 use Rattle.schedule_trie.proofs.lists.NoRepeats.{has-head, has-tail, has_cases, has_not_from, has-left, has-right, Once-left, Once-right, Once-apart}
 use Rattle.schedule_trie.proofs.branches.Lines.{given_at, IsSegment-weaker}
 
@@ -25,9 +25,10 @@ module _ (key fresh : ℕ) where
   keys_in-divided (s ∷ ss) (suc i) = keys_in-divided ss i
 
   -- `rest` after the key k; if b is true, with the new key before k
-  abbrev part : Bool → ℕ → List ℕ → List ℕ
-  part b k rest = cond b (fresh ∷ k ∷ []) (k ∷ []) ++ rest
+  abbrev with_fresh_above : Bool → ℕ → List ℕ → List ℕ
+  with_fresh_above b k rest = cond b (fresh ∷ k ∷ []) (k ∷ []) ++ rest
 
+  -- a divided path has the keys that it had
   pub has-divided : (k : ℕ) (ks : List ℕ) → has k ks ≡ true → has k (divided_keys key fresh ks) ≡ true
   has-divided k [] h = absurd (true≢false (sym h))
   has-divided k (j ∷ ks) h =
@@ -36,21 +37,23 @@ module _ (key fresh : ℕ) where
       (λ e. subst (λ z. has z (j ∷ divided_keys key fresh ks) ≡ true) (sym e) (has-head j (divided_keys key fresh ks)))
       (λ r. has-tail k j (divided_keys key fresh ks) (has-divided k ks r)))
     where
-      by : (b : Bool) → has k (j ∷ divided_keys key fresh ks) ≡ true → has k (part b j (divided_keys key fresh ks)) ≡ true
+      by : (b : Bool) → has k (j ∷ divided_keys key fresh ks) ≡ true → has k (with_fresh_above b j (divided_keys key fresh ks)) ≡ true
       by true g = has-tail k fresh (j ∷ divided_keys key fresh ks) g
       by false g = g
 
+  -- and the new key, if it has the key
   pub has-new_key : (ks : List ℕ) → has key ks ≡ true → has fresh (divided_keys key fresh ks) ≡ true
   has-new_key [] h = absurd (true≢false (sym h))
   has-new_key (j ∷ ks) h =
       has_cases key j ks (has fresh (divided_keys key fresh (j ∷ ks)) ≡ true) h
-      (λ e. ap (λ b. has fresh (part b j (divided_keys key fresh ks))) (eq-eqb key j e) ∙ has-head fresh (j ∷ divided_keys key fresh ks))
+      (λ e. ap (λ b. has fresh (with_fresh_above b j (divided_keys key fresh ks))) (eq-eqb key j e) ∙ has-head fresh (j ∷ divided_keys key fresh ks))
       (λ r. by (nat_eq key j) (has-new_key ks r))
     where
-      by : (b : Bool) → has fresh (divided_keys key fresh ks) ≡ true → has fresh (part b j (divided_keys key fresh ks)) ≡ true
+      by : (b : Bool) → has fresh (divided_keys key fresh ks) ≡ true → has fresh (with_fresh_above b j (divided_keys key fresh ks)) ≡ true
       by true g = has-head fresh (j ∷ divided_keys key fresh ks)
       by false g = has-tail fresh j (divided_keys key fresh ks) g
 
+  -- a key of a divided path is the new one, or was there before
   pub from_divided : (k : ℕ) (ks : List ℕ) → has k (divided_keys key fresh ks) ≡ true → (k ≡ fresh) ⊎ (has k ks ≡ true)
   from_divided k [] h = inr h
   from_divided k (j ∷ ks) h = by (nat_eq key j) h (from_divided k ks)
@@ -62,7 +65,7 @@ module _ (key fresh : ℕ) where
           (λ e. inr (subst (λ z. has z (j ∷ ks) ≡ true) (sym e) (has-head j ks)))
           (λ r. elim (rest r) [ inl e ↦ inl e | inr f ↦ inr (has-tail k j ks f) ])
 
-      by : (b : Bool) → has k (part b j (divided_keys key fresh ks)) ≡ true → (has k (divided_keys key fresh ks) ≡ true → (k ≡ fresh) ⊎ (has k ks ≡ true))
+      by : (b : Bool) → has k (with_fresh_above b j (divided_keys key fresh ks)) ≡ true → (has k (divided_keys key fresh ks) ≡ true → (k ≡ fresh) ⊎ (has k ks ≡ true))
           → (k ≡ fresh) ⊎ (has k (j ∷ ks) ≡ true)
       by true g rest =
           has_cases k fresh (j ∷ divided_keys key fresh ks) ((k ≡ fresh) ⊎ (has k (j ∷ ks) ≡ true)) g (λ e. inl e) (later rest)
@@ -99,7 +102,7 @@ module _ (key fresh : ℕ) where
           ap (λ b. cond b (Some fresh) (cond (nat_eq fresh fresh) (above key) (above fresh))) apart
           ∙ ap (λ b. cond b (above key) (above fresh)) (eq-eqb fresh fresh refl) ∙ ap above same ∙ l.0 in
           let at_key : above_divided above k ≡ Some fresh = ap (λ b. cond b (Some fresh) (cond (nat_eq fresh k) (above key) (above k))) e in
-          subst (λ b. Linked (above_divided above) up (part b k (divided_keys key fresh ks))) (sym e) (at_fresh, (at_key, rest))
+          subst (λ b. Linked (above_divided above) up (with_fresh_above b k (divided_keys key fresh ks))) (sym e) (at_fresh, (at_key, rest))
         where
           other : (b : Bool) → nat_eq key fresh ≡ b → nat_eq key fresh ≡ false
           other true f = absurd (true≢false (sym (eq-eqb fresh k (sym (eqb-true key fresh f) ∙ eqb-true key k e)) ∙ lacks))
@@ -107,7 +110,7 @@ module _ (key fresh : ℕ) where
       by false e rest =
           let at_k : above_divided above k ≡ up =
           ap (λ b. cond b (Some fresh) (cond (nat_eq fresh k) (above key) (above k))) e ∙ ap (λ b. cond b (above key) (above k)) lacks ∙ l.0 in
-          subst (λ b. Linked (above_divided above) up (part b k (divided_keys key fresh ks))) (sym e) (at_k, rest)
+          subst (λ b. Linked (above_divided above) up (with_fresh_above b k (divided_keys key fresh ks))) (sym e) (at_k, rest)
 
 module _ {T : Type 0} (old new : ℕ → Option (SegmentOf T)) (key fresh : ℕ) (above below : SegmentOf T) (divides : Divides old new key fresh above below) where
   -- a list function that distributes over `++` and changes only the cut segment
@@ -121,7 +124,7 @@ module _ {T : Type 0} (old new : ℕ → Option (SegmentOf T)) (key fresh : ℕ)
         by : (b : Bool) → nat_eq key k ≡ b → line new (divided_keys key fresh ks) ≡ g (line old ks) → line new (divided_keys key fresh (k ∷ ks)) ≡ g (line old (k ∷ ks))
         by true e rest =
             let same : key ≡ k = eqb-true key k e in
-            ap (λ b. line new (part key fresh b k (divided_keys key fresh ks))) e
+            ap (λ b. line new (with_fresh_above key fresh b k (divided_keys key fresh ks))) e
             ∙ ap (λ o. slots_of o ++ (slots_of (new k) ++ line new (divided_keys key fresh ks))) divides.upper
             ∙ ap (λ o. above.slots ++ (slots_of o ++ line new (divided_keys key fresh ks))) (ap new (sym same) ∙ divides.lower)
             ∙ sym (append_assoc above.slots below.slots (line new (divided_keys key fresh ks)))
@@ -131,7 +134,7 @@ module _ {T : Type 0} (old new : ℕ → Option (SegmentOf T)) (key fresh : ℕ)
         by false e rest =
             let other : k ≡ key → ⊥ = λ f. eqb-false key k e (sym f) in
             let lacks : k ≡ fresh → ⊥ = λ f. eqb-false fresh k (lacks_head key fresh k ks h) (sym f) in
-            ap (λ b. line new (part key fresh b k (divided_keys key fresh ks))) e
+            ap (λ b. line new (with_fresh_above key fresh b k (divided_keys key fresh ks))) e
             ∙ ap (λ l. l ++ line new (divided_keys key fresh ks)) (ap slots_of (divides.others k other lacks) ∙ sym (elsewhere k other))
             ∙ ap (λ l. g (slots_of (old k)) ++ l) rest
             ∙ sym (through (slots_of (old k)) (line old ks))
@@ -253,7 +256,7 @@ module _ {T : Type 0} (old new : ℕ → Option (SegmentOf T)) (key fresh : ℕ)
 
 -- the cut segment is touched, and neither part has a note
 pub notes-divided : {T : Type 0} (c d : TrieOf T) (key fresh : ℕ) (above below : SegmentOf T) → Divides (segment_at c.segments) (segment_at d.segments) key fresh above below
-    → above.note ≡ None → below.note ≡ None → KeepsNotesOff c d (λ k. k ≡ key)
+    → above.note ≡ None → below.note ≡ None → KeepsNotesExcept c d (λ k. k ≡ key)
 notes-divided c d key fresh above below divides none_above none_below = record {
   notes = record {
     touched = Some key;

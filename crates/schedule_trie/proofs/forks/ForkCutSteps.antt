@@ -2,8 +2,8 @@
 use Rattle.std.proofs.Common.{◌≡◌, ℕ, ◌+◌, ◌-◌, ◌<◌, nat_eq, List, [], ◌∷◌, ◌++◌, length, map, take, drop, get_or, set, Option, Some, None, IsSome, refl, sym, ap, subst, ◌∙◌, arith}
 use Rattle.std.specs.Cmp.Lexicographic.{pointwise}
 use Rattle.std.specs.Global.{Vec}
-use Rattle.std.proofs.lemmas.List.{length-append, length-drop, length-map, length-take-le, take-append-drop}
-use Rattle.std.proofs.Math.Seq.{take-append_seam, take-length}
+use Rattle.std.proofs.lemmas.List.{length-append, length-map, length-take-le, take-append-drop}
+use Rattle.std.proofs.Math.Seq.{take-append_seam}
 use Rattle.indexmap.specs.IndexMap.{insert_entry}
 use Rattle.lineage.specs.Family.{Family, item_at, path_in, divided_keys, IsForkedAbove}
 use Rattle.branch_terms.specs.declared.slot.Slot.{Slot}
@@ -11,7 +11,7 @@ use Rattle.schedule_trie.specs.declared.segment.Segment.{Segment}
 use Rattle.schedule_trie.specs.declared.trie.Trie.TheInside.{Inside}
 use Rattle.branch_terms.specs.Forest.{branch, index_of, slots_in}
 use Rattle.schedule_trie.specs.Trie.{TrieOf, SegmentOf, segment, segment_at, slots_of, line, forest, keys_in, IsParted, IsWhole, divided_branch}
-use Rattle.schedule_trie.specs.TrieFields.{segments_of, names_of, trie_of, IsHeldTrie}
+use Rattle.schedule_trie.specs.TrieFields.{segments_of, names_of, trie_of, IsWholeWithPaths}
 use Rattle.schedule_trie.specs.changes.Forks.{IsBranchForked}
 use Rattle.schedule_trie.proofs.forks.Division.{Divides, notes-divided}
 use Rattle.schedule_trie.proofs.forks.DivisionSteps.{divides_from}
@@ -23,10 +23,7 @@ use Rattle.schedule_trie.proofs.segments.CellHolders.{one_holder}
 use Rattle.schedule_trie.proofs.branches.KeyedBranches.{keys_in-keyed_branches, keyed_branches-divided}
 use Rattle.schedule_trie.proofs.segments.TouchedSegments.{parted}
 
--- the first `length xs - n` items of `drop n xs` are all of them
-pub rest_of : {X : Type 0} (n : ℕ) (xs : List X) → take (length xs - n) (drop n xs) ≡ drop n xs
-rest_of n xs = ap (λ k. take k (drop n xs)) (sym (length-drop n xs)) ∙ take-length (drop n xs)
-
+-- what has cells is a segment
 some_from_slots : {T : Type 0} (o : Option (SegmentOf T)) (n : ℕ) → n < length (slots_of o) → IsSome o
 some_from_slots None n h = absurd (omega arith)
 some_from_slots (Some p) n h = refl
@@ -36,7 +33,7 @@ get_or-here [] back key = refl
 get_or-here (f ∷ fs) back key = get_or-here fs back key
 
 module _ {T : Type 0} (t u : Inside T) (mid : Family (Segment T)) (name : List ℕ) (index key new rest : ℕ) (front back : List ℕ)
-    (above below : Vec Slot) (v w : Segment T) (more : Option ℕ) (held : IsHeldTrie t) (room : length (trie_of t).branches < (trie_of t).limits.branches)
+    (above below : Vec Slot) (v w : Segment T) (more : Option ℕ) (held : IsWholeWithPaths t) (room : length (trie_of t).branches < (trie_of t).limits.branches)
     (free : index_of (forest (trie_of t)).branches name ≡ None) (made : u.made ≡ t.made) (limits : u.limits ≡ t.limits)
     (parting : keys_in (trie_of t).branches index ≡ front ++ key ∷ back) (some : 0 < rest) (within : rest < length (slots_of (segment_at (trie_of t).segments key)))
     (forked : IsForkedAbove t.segments mid key new (unnoted above)) (there : item_at mid key ≡ Some v) (after : u.segments.items ≡ set mid.items key (Some w))
@@ -93,7 +90,7 @@ module _ {T : Type 0} (t u : Inside T) (mid : Family (Segment T)) (name : List �
   as_many : length (map (divided_keys key new) t.segments.paths) ≡ length (names_of t)
   as_many = length-map t.segments.paths (divided_keys key new) ∙ held.paths
 
-  cut_fork_held : IsHeldTrie u
+  cut_fork_held : IsWholeWithPaths u
   cut_fork_held = fork_held middle u name index (count + 1) t.branches.entries (map (divided_keys key new) t.segments.paths) forked.path more
       (keyed_branches-divided key new (names_of t) t.segments.paths) as_many refl made limits free_now path_now (paths ∙ forked.paths) entries middle_whole room_now
 
@@ -121,5 +118,5 @@ module _ {T : Type 0} (t u : Inside T) (mid : Family (Segment T)) (name : List �
     cut = middle_forked.cut;
   }
 
-  pub cut_fork : IsHeldTrie u × IsBranchForked c (trie_of u) index place name
+  pub cut_fork : IsWholeWithPaths u × IsBranchForked c (trie_of u) index place name
   cut_fork = (cut_fork_held, is_forked_in_segment)

@@ -1,5 +1,5 @@
 -- A fork of all cells of a branch: it has all of the branch's segments.
-use Rattle.std.proofs.Common.{◌≡◌, ℕ, ◌+◌, ◌<◌, true, List, [], ◌∷◌, ◌++◌, length, Option, Some, Result, Ok, Err, OnOk, refl, sym, ap, ◌∙◌, arith, append_assoc}
+use Rattle.std.proofs.Common.{◌≡◌, ℕ, ◌+◌, ◌<◌, true, List, [], ◌∷◌, ◌++◌, length, Option, Some, refl, sym, ap, ◌∙◌, arith, append_assoc}
 use Rattle.std.proofs.lemmas.List.{length-append}
 use Rattle.schedule_trie.specs.Trie.{TrieOf, SegmentOf, segment_at, slots_of, line, keys_in, has, SpotIsAt, IsWhole}
 use Rattle.schedule_trie.specs.Climbs.{keys_up_to, keys_to}
@@ -7,14 +7,6 @@ use Rattle.schedule_trie.proofs.lists.NoRepeats.{has-head, has-in}
 use Rattle.schedule_trie.proofs.climbs.Climbs.{up_to-here}
 use Rattle.schedule_trie.proofs.edits.Pushes.{line-append}
 use Rattle.schedule_trie.proofs.segments.TouchedSegments.{some_slots}
-
-pub map_on_ok : {X E P Q : Type 0} (r : Result X E) → (P → Q) → OnOk r P → OnOk r Q
-map_on_ok (Ok x) f h = f h
-map_on_ok (Err e) f h = tt
-
-pub always_on_ok : {X E P : Type 0} (r : Result X E) → P → OnOk r P
-always_on_ok (Ok x) h = h
-always_on_ok (Err e) h = tt
 
 module _ {T : Type 0} (at : ℕ → Option (SegmentOf T)) where
   -- each of these segments has a cell

@@ -7,17 +7,18 @@ use Rattle.std.proofs.Math.Seq.{take-append_seam}
 use Rattle.indexmap.specs.IndexMap.{insert_entry}
 use Rattle.indexmap.proofs.MapLemmas.{Missing-position, insert_entry-absent}
 use Rattle.std.specs.Option.{IfSome}
-use Rattle.lineage.specs.Family.{Family, item_at, last_of, last_from, path_in, IsForked as IsForkedIn}
+use Rattle.lineage.specs.Family.{Family, item_at, path_in, IsForked}
 use Rattle.schedule_trie.specs.declared.trie.Trie.TheInside.{Inside}
 use Rattle.branch_terms.specs.Forest.{index_of, name_of}
 use Rattle.schedule_trie.specs.Trie.{TrieOf, keyed_branch, forest, segment_at, line, branches_on, keys_in, IsWhole}
 use Rattle.schedule_trie.specs.Climbs.{keys_to, HasClimbedTo}
-use Rattle.schedule_trie.specs.TrieFields.{segments_of, keyed_branches, names_of, trie_of, IsHeldTrie}
+use Rattle.schedule_trie.specs.TrieFields.{segments_of, keyed_branches, names_of, trie_of, IsWholeWithPaths}
 use Rattle.schedule_trie.specs.changes.Forks.{IsBranchForked, IsForkedWhole}
 use Rattle.schedule_trie.proofs.lists.KeyPositions.{parting}
 use Rattle.schedule_trie.proofs.forks.Forks.{with_front, front_whole, front_forked}
 use Rattle.schedule_trie.proofs.segments.StepSet.{item_there}
 use Rattle.schedule_trie.proofs.branches.KeyedBranches.{names_on, keys_in-keyed_branches, keyed_branches-last}
+use Rattle.schedule_trie.proofs.lists.LastKeys.{empty_from_no_last}
 
 -- a branch with a new name is added last, with the first `count` keys of the branch at `index`
 module _ {T : Type 0} (c : TrieOf T) (u : Inside T) (name : List ℕ) (index count : ℕ) (es : List (List ℕ × Option ℕ)) (paths : List (List ℕ)) (path : List ℕ) (v : Option ℕ)
@@ -51,7 +52,7 @@ module _ {T : Type 0} (c : TrieOf T) (u : Inside T) (name : List ℕ) (index cou
   many = ap length all ∙ length_push paths path ∙ ap (λ n. n + 1) as_many ∙ sym (ap length names ∙ length_push (keys_of es) name)
 
   module _ (whole : IsWhole c) (room : length c.branches < c.limits.branches) where
-    pub fork_held : IsHeldTrie u
+    pub fork_held : IsWholeWithPaths u
     fork_held = record { whole = subst IsWhole (sym fork_seen) (front_whole c name index count whole room); paths = many }
 
     pub is_branch_forked : (place : ℕ) → length (line (segment_at c.segments) (take count (keys_in c.branches index))) ≡ place → IsBranchForked c (trie_of u) index place name
@@ -65,34 +66,25 @@ taken_to keys (Some key) h =
     let parts : keys ≡ (p.front ++ key ∷ []) ++ p.back = p.is ∙ sym (append_assoc p.front (key ∷ []) p.back) in
     p.to ∙ sym (take-append_seam (p.front ++ key ∷ []) p.back) ∙ ap (take (length (p.front ++ key ∷ []))) (sym parts) ∙ ap (λ l. take (length l) keys) (sym p.to)
 
-some_last : (ks : List ℕ) (k : ℕ) → last_from (Some k) ks ≡ None → ⊥
-some_last [] k e = cc
-some_last (j ∷ js) k e = some_last js j e
-
--- a path that has no last key is empty
-pub no_last : (path : List ℕ) → last_of path ≡ None → path ≡ []
-no_last [] e = refl
-no_last (k ∷ ks) e = absurd (some_last ks k e)
-
-module _ {X : Type 0} (old new : Family X) (index : ℕ) (key : Option ℕ) (forked : IsForkedIn old new key) where
+module _ {X : Type 0} (old new : Family X) (index : ℕ) (key : Option ℕ) (forked : IsForked old new key) where
   pub path_forked : HasClimbedTo (path_in old index) key → forked.path ≡ take (length (keys_to (path_in old index) key)) (path_in old index)
   path_forked h = by key forked h
     where
-      by : (key : Option ℕ) (forked : IsForkedIn old new key) → HasClimbedTo (path_in old index) key → forked.path ≡ take (length (keys_to (path_in old index) key)) (path_in old index)
-      by None forked h = no_last forked.path forked.last
+      by : (key : Option ℕ) (forked : IsForked old new key) → HasClimbedTo (path_in old index) key → forked.path ≡ take (length (keys_to (path_in old index) key)) (path_in old index)
+      by None forked h = empty_from_no_last forked.path forked.last
       by (Some k) forked h =
           let p = parting (path_in old index) k h in
           forked.shared k index p.front p.back refl p.is ∙ sym p.to ∙ taken_to (path_in old index) (Some k) h
 
-pub reached_there : {T : Type 0} (t : Inside T) (index : ℕ) (last : Option ℕ) → IsHeldTrie t → HasClimbedTo (keys_in (trie_of t).branches index) last
+pub reached_there : {T : Type 0} (t : Inside T) (index : ℕ) (last : Option ℕ) → IsWholeWithPaths t → HasClimbedTo (keys_in (trie_of t).branches index) last
     → IfSome last (λ k. IsSome (item_at t.segments k))
 reached_there t index None held h = tt
 reached_there t index (Some k) held h = item_there t k (held.whole.sound.held index k h)
 
 -- a fork down to the end of a segment of a branch, or with no segment
-module _ {T : Type 0} (t u : Inside T) (name : List ℕ) (index : ℕ) (last : Option ℕ) (more : Option ℕ) (held : IsHeldTrie t)
+module _ {T : Type 0} (t u : Inside T) (name : List ℕ) (index : ℕ) (last : Option ℕ) (more : Option ℕ) (held : IsWholeWithPaths t)
     (room : length (trie_of t).branches < (trie_of t).limits.branches) (free : index_of (forest (trie_of t)).branches name ≡ None)
-    (reached : HasClimbedTo (keys_in (trie_of t).branches index) last) (forked : IsForkedIn t.segments u.segments last)
+    (reached : HasClimbedTo (keys_in (trie_of t).branches index) last) (forked : IsForked t.segments u.segments last)
     (entries : u.branches.entries ≡ insert_entry (pointwise nat_eq) t.branches.entries name more) (made : u.made ≡ t.made) (limits : u.limits ≡ t.limits) where
   abbrev keys : List ℕ
   keys = keys_in (trie_of t).branches index
@@ -108,7 +100,7 @@ module _ {T : Type 0} (t u : Inside T) (name : List ℕ) (index : ℕ) (last : O
       path_forked t.segments u.segments index last forked (subst (λ l. HasClimbedTo l last) same reached)
       ∙ ap (λ l. take (length (keys_to l last)) l) (sym same)
 
-  pub held_after_fork : IsHeldTrie u
+  pub held_after_fork : IsWholeWithPaths u
   held_after_fork = fork_held (trie_of t) u name index count t.branches.entries t.segments.paths forked.path more refl held.paths (ap segments_of forked.items) made limits free path forked.paths entries
       held.whole room
 

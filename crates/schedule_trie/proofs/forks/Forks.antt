@@ -3,7 +3,7 @@ use Rattle.std.proofs.Common.{◌≡◌, ℕ, zero, suc, ◌+◌, ◌<◌, true,
 use Rattle.std.proofs.lemmas.List.{length-append, map-append, take-append-drop}
 use Rattle.std.proofs.Math.Seq.{take-append_seam}
 use Rattle.branch_terms.specs.Forest.{branch, index_of, slots_in}
-use Rattle.schedule_trie.specs.Trie.{TrieOf, SegmentOf, KeyedBranch, keyed_branch, segment_at, line, forest, branch_on, branches_on, keys_in, has, note_of, Linked, IsSoundTrie, IsWhole, KeepsNotesOff, IsParted}
+use Rattle.schedule_trie.specs.Trie.{TrieOf, SegmentOf, KeyedBranch, keyed_branch, segment_at, line, forest, branch_on, branches_on, keys_in, has, note_of, Linked, IsSoundTrie, IsWhole, KeepsNotesExcept, IsParted}
 use Rattle.schedule_trie.specs.changes.Forks.{IsBranchForked}
 use Rattle.schedule_trie.proofs.lists.NoRepeats.{has-append}
 use Rattle.schedule_trie.proofs.branches.Lines.{slots_in_on}
@@ -91,7 +91,7 @@ module _ {T : Type 0} (c : TrieOf T) (name : List ℕ) (index count : ℕ) (whol
 
   -- no segment has cells on both sides of the fork's place, and no note is lost
   front_notes : (place : ℕ) → length (line (segment_at c.segments) front) ≡ place → (source : List ℕ) → index_of (forest c).branches source ≡ Some index
-      → KeepsNotesOff c after (IsParted c source place)
+      → KeepsNotesExcept c after (IsParted c source place)
   front_notes place e source found = record {
     notes = record { touched = None; kept = λ k ne h. inl refl; cleared = λ k e. absurd (cc); fresh = λ k h. ap note_of h };
     each = λ k h. absurd (none_parted c source index place count whole found e k h);

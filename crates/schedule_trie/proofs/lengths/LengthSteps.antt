@@ -11,10 +11,10 @@ use Rattle.schedule_steps.specs.declared.types.Step.{Step}
 use Rattle.schedule_trie.specs.declared.trie.Trie.TheInside.{Inside}
 use Rattle.branch_terms.specs.Forest.{index_of, put_last, renumbered, replaced, slot, slots_in, with_step}
 use Rattle.schedule_trie.specs.Trie.{TrieOf, forest, segment_at, slots_of, line, keys_in, branch_on, IsStepSet, IsNoted, IsPushed}
-use Rattle.schedule_trie.specs.changes.Copies.{IsDetached}
+use Rattle.schedule_trie.specs.changes.Detaches.{IsDetached}
 use Rattle.schedule_trie.specs.changes.Forks.{IsBranchForked}
-use Rattle.schedule_trie.specs.changes.Releases.{IsDropped}
-use Rattle.schedule_trie.specs.TrieFields.{names_of, trie_of, AreLengths, AreNames, IsHeldTrie, IsTrie}
+use Rattle.schedule_trie.specs.changes.Drops.{IsDropped}
+use Rattle.schedule_trie.specs.TrieFields.{names_of, trie_of, AreLengths, AreNames, IsWholeWithPaths, IsTrie}
 use Rattle.schedule_trie.specs.NamedLengths.{cached_in}
 use Rattle.schedule_trie.proofs.lengths.Lengths.{cached_is, relength_seen, relength_held, none_cached, same_lengths, length-everywhere, length-only_in, one_forgotten, lengths_left, lengths_more}
 use Rattle.schedule_trie.proofs.branches.Lines.{index_is, keys_are, slots_in_on}
@@ -66,14 +66,14 @@ forked_lengths t new entries index place name right free is is_step =
 
 -- only cached lengths differ between the fields t and u; in u none is cached, or all are right
 module _ {T : Type 0} (t u : Inside T) (names : names_of u ≡ names_of t) (segments : u.segments ≡ t.segments) (made : u.made ≡ t.made) (limits : u.limits ≡ t.limits) where
-  pub none_cached_kept : IsHeldTrie t → AreNames (names_of t) → ((i : ℕ) → cached_in (slice_get u.branches.entries i) ≡ None) → IsTrie u
+  pub none_cached_kept : IsWholeWithPaths t → AreNames (names_of t) → ((i : ℕ) → cached_in (slice_get u.branches.entries i) ≡ None) → IsTrie u
   none_cached_kept held named none = record {
     held = relength_held t u names segments made limits held;
     lengths = none_cached u.branches.entries (forest (trie_of u)).branches none;
     names = subst AreNames (sym names) named;
   }
 
-  pub right_lengths_kept : (es : List (List ℕ × Option ℕ)) → IsHeldTrie t → AreNames (names_of t) → AreLengths es (forest (trie_of t)).branches → u.branches.entries ≡ es → IsTrie u
+  pub right_lengths_kept : (es : List (List ℕ × Option ℕ)) → IsWholeWithPaths t → AreNames (names_of t) → AreLengths es (forest (trie_of t)).branches → u.branches.entries ≡ es → IsTrie u
   right_lengths_kept es held named right is = record {
     held = relength_held t u names segments made limits held;
     lengths = subst (λ l. AreLengths l (forest (trie_of u)).branches) (sym is)
@@ -82,7 +82,7 @@ module _ {T : Type 0} (t u : Inside T) (names : names_of u ≡ names_of t) (segm
   }
 
 -- the cached length of one branch is also that of each branch with the same last key
-pub same_len : {T : Type 0} (t : Inside T) (other index : ℕ) (len : Option ℕ) → IsHeldTrie t → AreLengths t.branches.entries (forest (trie_of t)).branches
+pub same_len : {T : Type 0} (t : Inside T) (other index : ℕ) (len : Option ℕ) → IsWholeWithPaths t → AreLengths t.branches.entries (forest (trie_of t)).branches
     → last_of (path_in t.segments other) ≡ last_of (path_in t.segments index) → len ≡ cached_in (slice_get t.branches.entries other)
     → IfSome len (λ n. n ≡ length (slots_in (forest (trie_of t)).branches index))
 same_len t other index None held right last kept = tt

@@ -8,7 +8,7 @@ use Rattle.branch_terms.specs.declared.slot.Slot.{Slot}
 use Rattle.schedule_trie.specs.declared.trie.Trie.TheInside.{Inside}
 use Rattle.branch_terms.specs.Forest.{Branch, everywhere, only_in, slots_in}
 use Rattle.schedule_trie.specs.Trie.{IsWhole}
-use Rattle.schedule_trie.specs.TrieFields.{segments_of, keyed_branches, names_of, trie_of, AreLengths, IsHeldTrie}
+use Rattle.schedule_trie.specs.TrieFields.{segments_of, keyed_branches, names_of, trie_of, AreLengths, IsWholeWithPaths}
 use Rattle.schedule_trie.specs.NamedLengths.{cached_in}
 
 -- a cached length, if there is one, is the given one
@@ -20,7 +20,7 @@ module _ {T : Type 0} (t u : Inside T) (names : names_of u ≡ names_of t) (segm
   pub relength_seen : trie_of u ≡ trie_of t
   relength_seen = λ i. record { branches = keyed_branches (names i) (segments i).paths; segments = segments_of (segments i).items; made = made i; limits = limits i }
 
-  pub relength_held : IsHeldTrie t → IsHeldTrie u
+  pub relength_held : IsWholeWithPaths t → IsWholeWithPaths u
   relength_held held = record { whole = subst IsWhole (sym relength_seen) held.whole; paths = ap (λ s. length s.paths) segments ∙ held.paths ∙ sym (ap length names) }
 
 pub names_set : {V : Type 0} (entries : List (List ℕ × V)) (index : ℕ) (len : V) → keys_of (set_value_at entries index len) ≡ keys_of entries

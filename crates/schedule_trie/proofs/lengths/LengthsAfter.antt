@@ -59,6 +59,7 @@ module _ {T : Type 0} (old new : TrieOf T) (whole : IsWhole old) (index : ℕ) (
   within : index < length (forest old).branches
   within = subst (λ n. index < n) (sym (branch_count old)) inside
 
+  -- after an insert the branch has one cell more
   pub longer : (place : ℕ) (step : Step) → IsInserted old new index place step → place ≤ length slots → length slots + 1 ≡ length (slots_in (forest new).branches index)
   longer place step is_step fits = sym (ap (λ f. length (slots_in f.branches index)) is_step.forest_is ∙ by (nat_eq place (length slots)) refl)
     where
@@ -93,6 +94,7 @@ module _ {T : Type 0} (old new : TrieOf T) (whole : IsWhole old) (index : ℕ) (
       let same : length (forest new).branches ≡ length (forest old).branches = ap length (is_step.everywhere_gone p.0 p.1) ∙ length-map (forest old).branches (changed (without p.0.cell)) in
       omega (arith, same, within, branch_count new)
 
+  -- after a removal it has one cell less
   pub shorter : (place key offset : ℕ) → SpotHasCellAt (segment_at old.segments) (keys_in old.branches index) place (key, offset) → IsRemoved old new key offset
       → place < length slots → length slots ≡ length (slots_in (forest new).branches index) + 1
   shorter place key offset cell_there is_step less =

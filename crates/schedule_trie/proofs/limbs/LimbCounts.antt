@@ -5,31 +5,31 @@ use Rattle.std.proofs.lemmas.List.{take_more, take_all}
 use Rattle.branch_terms.specs.declared.limb.Limb.{Limb}
 use Rattle.branch_terms.specs.Limbs.{own_cell_count}
 
-pub cells_of-append : (xs ys : List Limb) → own_cell_count (xs ++ ys) ≡ own_cell_count xs + own_cell_count ys
-cells_of-append [] ys = omega arith
-cells_of-append (x ∷ xs) ys = let r = cells_of-append xs ys in omega arith
+pub own_cell_count-append : (xs ys : List Limb) → own_cell_count (xs ++ ys) ≡ own_cell_count xs + own_cell_count ys
+own_cell_count-append [] ys = omega arith
+own_cell_count-append (x ∷ xs) ys = let r = own_cell_count-append xs ys in omega arith
 
-pub cells_of-first : (i : ℕ) (ls : List Limb) → own_cell_count (take i ls) ≤ own_cell_count ls
-cells_of-first zero ls = omega arith
-cells_of-first (suc i) [] = omega arith
-cells_of-first (suc i) (l ∷ ls) = let r = cells_of-first i ls in omega arith
+pub own_cell_count-take-le : (i : ℕ) (ls : List Limb) → own_cell_count (take i ls) ≤ own_cell_count ls
+own_cell_count-take-le zero ls = omega arith
+own_cell_count-take-le (suc i) [] = omega arith
+own_cell_count-take-le (suc i) (l ∷ ls) = let r = own_cell_count-take-le i ls in omega arith
 
 module _ (ls : List Limb) (i : ℕ) (l : Limb) (less : i < length ls) (at : get_or ls i l ≡ l) where
-  pub cells_of-next : own_cell_count (take (i + 1) ls) ≡ own_cell_count (take i ls) + length l.steps
-  cells_of-next =
+  pub own_cell_count-take_more : own_cell_count (take (i + 1) ls) ≡ own_cell_count (take i ls) + length l.steps
+  own_cell_count-take_more =
       let more : take (i + 1) ls ≡ take i ls ++ l ∷ [] = take_more ls i l less ∙ ap (λ z. take i ls ++ z ∷ []) at in
-      let sum = cells_of-append (take i ls) (l ∷ []) in
+      let sum = own_cell_count-append (take i ls) (l ∷ []) in
       let whole = ap own_cell_count more in omega arith
 
   -- the next limb has more steps than there is room for; or there is room, and less is left
   pub too_many_here : (room most : ℕ) → own_cell_count (take i ls) + room ≡ most → room < length l.steps → true ≡ nat_lt most (own_cell_count ls)
   too_many_here room most so_far few =
-      let next = cells_of-next in
-      let first = cells_of-first (i + 1) ls in
+      let next = own_cell_count-take_more in
+      let first = own_cell_count-take-le (i + 1) ls in
       let more : most < own_cell_count ls = omega arith in sym (grind (arith, nat_tests))
 
   pub room_left : (room most : ℕ) → own_cell_count (take i ls) + room ≡ most → length l.steps ≤ room → own_cell_count (take (i + 1) ls) + (room - length l.steps) ≡ most
-  room_left room most so_far few = let next = cells_of-next in omega arith
+  room_left room most so_far few = let next = own_cell_count-take_more in omega arith
 
 pub not_too_many : (ls : List Limb) (i room most : ℕ) → length ls ≤ i → own_cell_count (take i ls) + room ≡ most → false ≡ nat_lt most (own_cell_count ls)
 not_too_many ls i room most end so_far =

@@ -2,7 +2,7 @@
 use Rattle.std.proofs.Common.{◌≡◌, ℕ, zero, suc, ◌+◌, ◌<◌, ◌≤◌, Bool, true, false, ◌||◌, nat_eq, List, [], ◌∷◌, ◌++◌, length, map, take, drop, slice_get, Option, Some, None, refl, sym, ap, subst, ◌∙◌, true≢false, arith, append_assoc, eq-eqb, cond}
 use Rattle.std.specs.List.{list_any}
 use Rattle.std.specs.Option.{IfSome, option_map}
-use Rattle.std.proofs.lemmas.Bool.{eqb-true, or_left, or_right}
+use Rattle.std.proofs.lemmas.Bool.{eqb-true, or_left, or_right, false_from_ne_true}
 use Rattle.std.proofs.lemmas.List.{map-append, length-append}
 use Rattle.std.proofs.lemmas.Option.{slice_get-map}
 use Rattle.std.proofs.Math.Seq.{drop-append_seam}
@@ -14,9 +14,10 @@ use Rattle.schedule_trie.specs.Trie.{TrieOf, SegmentOf, forest, segment_at, slot
 use Rattle.schedule_trie.specs.Climbs.{keys_up_to}
 use Rattle.branch_terms.specs.Limbs.{has_slot, holds, is_in_branches, shared_with, first_with, limb_of, limbs}
 use Rattle.schedule_trie.specs.Marks.{mark, mark_at, IsMarkOf, IsOwnPart, AreMarked, IsMark, MarksFirst}
-use Rattle.schedule_trie.proofs.climbs.Climbs.{last_some, up_to-here, line-last}
+use Rattle.schedule_trie.proofs.climbs.Climbs.{up_to-here, line-last}
+use Rattle.schedule_trie.proofs.lists.LastKeys.{last_from-parts}
 use Rattle.schedule_trie.proofs.branches.Lines.{in_line, slots_in_on, sound_short}
-use Rattle.branch_terms.proofs.LimbLists.{slot-head, slot-tail, slot_not_from, any_from, any_none, first_is, StopsAt, prefix_is, all_in}
+use Rattle.branch_terms.proofs.LimbLists.{has_slot-head, has_slot-tail, any_from, any_none, first_is, StopsAt, prefix_is, all_in}
 use Rattle.branch_terms.proofs.LimbsLawful.{slots_at, slots_in-first, limbs_at}
 use Rattle.branch_terms.proofs.Lists.{nat_eq_symmetric}
 use Rattle.schedule_trie.proofs.lists.NoRepeats.{has_cases, has-head, has-append, has_not_from, Once-from_linked, has-left, has-right, Once-right, Once-apart, once_before}
@@ -30,8 +31,9 @@ has_slot-has_cell : (x : ℕ) (xs : List Slot) → has_slot x xs ≡ has_cell x 
 has_slot-has_cell x [] = refl
 has_slot-has_cell x (s ∷ xs) = (λ i. nat_eq_symmetric s.cell x i || has_slot-has_cell x xs i)
 
-once_apart : (xs ys : List ℕ) (k : ℕ) → Once (xs ++ ys) → has k ys ≡ true → has k xs ≡ false
-once_apart xs ys k once h = has_not_from k xs (λ g. Once-apart k xs ys once g h)
+-- a key of the second of two joined lists isn't in the first, if no key is twice in them
+lacked_in_front : (xs ys : List ℕ) (k : ℕ) → Once (xs ++ ys) → has k ys ≡ true → has k xs ≡ false
+lacked_in_front xs ys k once h = has_not_from k xs (λ g. Once-apart k xs ys once g h)
 
 keys_up_to-append : (k : ℕ) (xs ys : List ℕ) → has k xs ≡ false → keys_up_to k (xs ++ ys) ≡ xs ++ keys_up_to k ys
 keys_up_to-append k [] ys h = refl
@@ -50,8 +52,8 @@ slots_in-taken (suc n) (b ∷ bs) (suc j) less = slots_in-taken n bs j (omega ar
 -- a cell of joined lists is in the list in which its index lies
 cell_in-left : (ys zs : List Slot) (n : ℕ) → n < length ys → has_slot (cell_in (ys ++ zs) n) ys ≡ true
 cell_in-left [] zs n less = absurd (omega arith)
-cell_in-left (y ∷ ys) zs zero less = slot-head y ys
-cell_in-left (y ∷ ys) zs (suc n) less = slot-tail (cell_in (ys ++ zs) n) y ys (cell_in-left ys zs n (omega arith))
+cell_in-left (y ∷ ys) zs zero less = has_slot-head y ys
+cell_in-left (y ∷ ys) zs (suc n) less = has_slot-tail (cell_in (ys ++ zs) n) y ys (cell_in-left ys zs n (omega arith))
 
 cell_in-middle : (xs ys zs : List Slot) (n : ℕ) → length xs ≤ n → n < length xs + length ys → has_slot (cell_in (xs ++ (ys ++ zs)) n) ys ≡ true
 cell_in-middle [] ys zs n more less = cell_in-left ys zs n (omega arith)
@@ -71,7 +73,7 @@ stem_cases : (marks : List (Option Mark)) (front : List ℕ) (m : Mark) (P : Typ
     → ((f : List ℕ) (k : ℕ) → front ≡ f ++ k ∷ [] → mark_at marks k ≡ Some m → P) → P
 stem_cases marks [] m P is none some = none refl is
 stem_cases marks (x ∷ xs) m P is none some =
-    let p = last_some xs x x in
+    let p = last_from-parts xs x x in
     some p.1.0 p.0 p.1.1.1 (subst (λ o. IsMarkOf marks o m) p.1.1.0 is)
 
 module _ {T : Type 0} (c : TrieOf T) (whole : IsWhole c) (index : ℕ) (marks : List (Option Mark)) (first : MarksFirst c index marks) (m : Mark) (own : List ℕ)
@@ -137,6 +139,7 @@ module _ {T : Type 0} (c : TrieOf T) (whole : IsWhole c) (index : ℕ) (marks : 
   total : length (line at keys) ≡ length (line at part.front) + length (line at own)
   total = ap (λ l. length (line at l)) part.is ∙ ap length (line-append at part.front own) ∙ length-append (line at part.front) (line at own)
 
+  -- 32 bits can count the branch's cells: there are fewer than 2^32
   pub own_few : m.cells + length (line at own) < 4294967296
   own_few =
       let short = sound_short at c.branches c.made whole.sound index in
@@ -150,7 +153,7 @@ module _ {T : Type 0} (c : TrieOf T) (whole : IsWhole c) (index : ℕ) (marks : 
       ap (has_slot x) (slots_in_on at c.branches j) ∙ has_slot-has_cell x (line at (keys_in c.branches j)) ∙ line_has at k x (keys_in c.branches j) h g
 
   segment_out : (j k x : ℕ) → has k (keys_in c.branches j) ≡ false → has_cell x (slots_of (at k)) ≡ true → has_slot x (slots_in bs j) ≡ false
-  segment_out j k x h g = slot_not_from x (slots_in bs j) (λ e.
+  segment_out j k x h g = false_from_ne_true (has_slot x (slots_in bs j)) (λ e.
       let p = in_line at x (keys_in c.branches j) (sym (has_slot-has_cell x (line at (keys_in c.branches j))) ∙ ap (has_slot x) (sym (slots_in_on at c.branches j)) ∙ e) in
       let same : p.0 ≡ k = whole.sound.apart p.0 k x p.2 g in
       true≢false (sym (subst (λ z. has z (keys_in c.branches j) ≡ true) same p.1) ∙ h))
@@ -159,7 +162,7 @@ module _ {T : Type 0} (c : TrieOf T) (whole : IsWhole c) (index : ℕ) (marks : 
   earlier = take index bs
 
   out_of_earlier : (j k x : ℕ) → ((i : ℕ) → i < index → has k (keys_in c.branches i) ≡ false) → has_cell x (slots_of (at k)) ≡ true → has_slot x (slots_in earlier j) ≡ false
-  out_of_earlier j k x none g = slot_not_from x (slots_in earlier j) (λ e.
+  out_of_earlier j k x none g = false_from_ne_true (has_slot x (slots_in earlier j)) (λ e.
       let r = slots_in-first index bs j x e in
       true≢false (sym r.1 ∙ segment_out j k x (none j r.0) g))
 
@@ -243,7 +246,7 @@ module _ {T : Type 0} (c : TrieOf T) (whole : IsWhole c) (index : ℕ) (marks : 
   module _ (new : List (Option Mark)) (are_marked : AreMarked at marks new own index m.cells) where
     own_mark : (k : ℕ) → has k own ≡ true → IsMark at c.branches (index + 1) k (mark index (m.cells + length (line at (keys_up_to k own))))
     own_mark k h =
-        let up : keys_up_to k keys ≡ part.front ++ keys_up_to k own = ap (keys_up_to k) part.is ∙ keys_up_to-append k part.front own (once_apart part.front own k once h) in
+        let up : keys_up_to k keys ≡ part.front ++ keys_up_to k own = ap (keys_up_to k) part.is ∙ keys_up_to-append k part.front own (lacked_in_front part.front own k once h) in
         let long : length (line at (keys_up_to k keys)) ≡ length (line at part.front) + length (line at (keys_up_to k own)) =
         ap (λ l. length (line at l)) up ∙ ap length (line-append at part.front (keys_up_to k own)) ∙ length-append (line at part.front) (line at (keys_up_to k own)) in
         record {

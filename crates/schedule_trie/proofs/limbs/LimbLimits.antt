@@ -9,7 +9,7 @@ use Rattle.branch_terms.specs.Forest.{Branch, cell_in, slots_in}
 use Rattle.schedule_trie.specs.Trie.{TrieOf, forest, segment_at, branch_on, IsWhole}
 use Rattle.branch_terms.specs.Limbs.{FitLimits, holds, is_in_branches, shared_with, first_with, limb_of, limbs_after, limbs}
 use Rattle.schedule_trie.proofs.branches.Lines.{slots_in_on, sound_short}
-use Rattle.schedule_trie.proofs.climbs.CellPlaces.{position_or_len-short}
+use Rattle.schedule_trie.proofs.lists.Searches.{position_or_len-short}
 
 first-within : (earlier : List Branch) (slots : List Slot) (k most : ℕ) → length earlier < most → first_with earlier slots k < most
 first-within earlier slots zero most few = omega arith

@@ -1,5 +1,5 @@
 -- Limbs one by one, and marks before the first.
-use Rattle.std.proofs.Common.{◌≡◌, ℕ, zero, suc, ◌+◌, ◌<◌, ◌≤◌, Bool, true, false, nat_lt, List, [], ◌∷◌, ◌++◌, length, take, slice_get, Option, Some, None, IsSome, refl, sym, ap, subst, ◌∙◌, arith}
+use Rattle.std.proofs.Common.{◌≡◌, ℕ, zero, suc, ◌+◌, ◌<◌, ◌≤◌, Bool, true, false, nat_lt, List, [], ◌∷◌, ◌++◌, length, Option, Some, None, IsSome, refl, sym, ap, subst, arith}
 use Rattle.std.specs.Option.{IfSome}
 use Rattle.std.proofs.lemmas.Bool.Decides.{nat_tests}
 use Rattle.lineage.specs.Family.{item_at}
@@ -10,7 +10,6 @@ use Rattle.schedule_trie.specs.Trie.{TrieOf, segment_at}
 use Rattle.schedule_trie.specs.TrieFields.{trie_of}
 use Rattle.branch_terms.specs.Limbs.{limbs_after, limbs}
 use Rattle.schedule_trie.specs.Marks.{mark_at, IsMark, MarksFirst}
-use Rattle.schedule_trie.proofs.branches.Shared.{take-suc}
 use Rattle.schedule_trie.proofs.segments.StepSet.{item_there}
 
 length-limbs_after : (earlier bs : List Branch) → length (limbs_after earlier bs) ≡ length bs
@@ -19,12 +18,6 @@ length-limbs_after earlier (b ∷ bs) = ap suc (length-limbs_after (earlier ++ b
 
 pub length-limbs : (f : Forest) → length (limbs f) ≡ length f.branches
 length-limbs f = length-limbs_after [] f.branches
-
--- `take-suc`, with `i + 1` for `suc i`
-pub taken_next : {X : Type 0} (xs : List X) (i : ℕ) (x : X) → slice_get xs i ≡ Some x → take (i + 1) xs ≡ take i xs ++ x ∷ []
-taken_next xs i x e =
-    let next : i + 1 ≡ suc i = omega arith in
-    ap (λ n. take n xs) next ∙ take-suc xs i x e
 
 -- a list without marks is still without marks after None is added
 pub empty_more : (marks : List (Option Mark)) → ((k : ℕ) → mark_at marks k ≡ None) → (k : ℕ) → mark_at (marks ++ None ∷ []) k ≡ None

@@ -1,5 +1,5 @@
 -- Marking keys of a path one by one.
-use Rattle.std.proofs.Common.{◌≡◌, ℕ, zero, suc, ◌+◌, ◌<◌, ◌≤◌, ◌^◌, Bool, true, false, ◌||◌, nat_eq, List, [], ◌∷◌, ◌++◌, length, take, get_or, set, Option, Some, None, refl, sym, ap, subst, ◌∙◌, true≢false, arith}
+use Rattle.std.proofs.Common.{◌≡◌, ℕ, ◌+◌, ◌<◌, ◌≤◌, ◌^◌, Bool, true, false, ◌||◌, nat_eq, List, [], ◌∷◌, ◌++◌, length, take, get_or, set, Option, Some, None, refl, sym, ap, subst, ◌∙◌, true≢false, arith}
 use Rattle.std.proofs.lemmas.Bool.{eqb-true, eqb-false, or_parts}
 use Rattle.std.proofs.lemmas.List.{length-append, length-set, take_more, get_or-set_same, get_or-set_other, take_all}
 use Rattle.schedule_trie.specs.declared.mark.Mark.{Mark}
@@ -9,11 +9,7 @@ use Rattle.schedule_trie.specs.Marks.{mark, mark_at, AreMarked}
 use Rattle.schedule_trie.proofs.climbs.Climbs.{up_to-here, line-last}
 use Rattle.schedule_trie.proofs.lists.NoRepeats.{has-append, has_cases, has-in, once_before}
 use Rattle.schedule_trie.proofs.edits.Pushes.{line-append}
-
-split_at : {X : Type 0} (xs : List X) (i : ℕ) (d : X) → i < length xs → get_or xs i d ≡ d → (back : List X) × (xs ≡ take i xs ++ d ∷ back)
-split_at [] i d less e = absurd (omega arith)
-split_at (x ∷ xs) zero d less e = (xs, ap (λ z. z ∷ xs) e)
-split_at (x ∷ xs) (suc i) d less e = let p = split_at xs i d (omega arith) e in (p.0, ap (λ l. x ∷ l) p.1)
+use Rattle.schedule_trie.proofs.lists.ListParts.{split_at}
 
 -- the first i of these keys are marked
 pub record AreMarkedSoFar {T : Type 0} (at : ℕ → Option (SegmentOf T)) (old new : List (Option Mark)) (keys : List ℕ) (branch above i cells : ℕ) : Type 0 where

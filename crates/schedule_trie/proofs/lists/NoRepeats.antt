@@ -31,6 +31,7 @@ Once-apart x (z ∷ xs) ys once a b =
     (λ e. true≢false (sym (has-right z xs ys (subst (λ w. has w ys ≡ true) e b)) ∙ once.0))
     (λ r. Once-apart x xs ys once.1 r b)
 
+-- `Once` and `has` in std's words
 IsDistinct-from_once : (xs : List ℕ) → Once xs → IsDistinct eqb xs
 unfolding IsDistinct
 IsDistinct-from_once [] h = tt
@@ -50,6 +51,7 @@ abbrev pub AreAbove : (ℕ → Option ℕ) → Option ℕ → List ℕ → Type 
 AreAbove above up [] = up ≡ None
 AreAbove above up (k ∷ ks) = (up ≡ Some k) × AreAbove above (above k) ks
 
+-- at most one list of keys goes up from a key
 pub AreAbove-one : (above : ℕ → Option ℕ) (up : Option ℕ) (xs ys : List ℕ) → AreAbove above up xs → AreAbove above up ys → length xs ≡ length ys
 AreAbove-one above up [] [] a b = refl
 AreAbove-one above up [] (y ∷ ys) a b = let e : None ≡ Some y = sym a ∙ b.0 in absurd (cc)
@@ -59,6 +61,7 @@ AreAbove-one above up (x ∷ xs) (y ∷ ys) a b =
     let same : x ≡ y = cc in
     ap suc (AreAbove-one above (above x) xs ys a.1 (subst (λ z. AreAbove above (above z) ys) (sym same) b.1))
 
+-- from a key of such a list a shorter one goes up
 AreAbove-from : (above : ℕ → Option ℕ) (up : Option ℕ) (k : ℕ) (xs : List ℕ) → AreAbove above up xs → has k xs ≡ true
     → (ys : List ℕ) × AreAbove above (above k) ys × (length ys < length xs)
 AreAbove-from above up k [] a h = absurd (true≢false (sym h))
@@ -85,6 +88,7 @@ Once-from_linked_below above up seen (k ∷ ks) u l =
 pub Once-from_linked : (above : ℕ → Option ℕ) (ks : List ℕ) → Linked above None ks → Once ks
 Once-from_linked above ks l = (Once-from_linked_below above None [] ks refl l).0
 
+-- an item of a list is in it
 pub has-get_or : (ks : List ℕ) (i : ℕ) → i < length ks → has (get_or ks i 0) ks ≡ true
 has-get_or [] i h = absurd (omega arith)
 has-get_or (k ∷ ks) zero h = has-head k ks
@@ -93,5 +97,6 @@ has-get_or (k ∷ ks) (suc i) h = has-tail (get_or ks i 0) k ks (has-get_or ks i
 pub has-in : (key : ℕ) (front back : List ℕ) → has key (front ++ key ∷ back) ≡ true
 has-in key front back = has-right key front (key ∷ back) (has-head key back)
 
+-- a key of a list with no number twice isn't among the keys before it
 pub once_before : (front : List ℕ) (key : ℕ) (back : List ℕ) → Once (front ++ key ∷ back) → has key front ≡ false
 once_before front key back h = has_not_from key front (λ g. Once-apart key front (key ∷ back) h g (has-head key back))

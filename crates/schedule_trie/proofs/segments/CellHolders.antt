@@ -3,7 +3,7 @@ use Rattle.std.proofs.Common.{◌≡◌, ℕ, true, List, Some, sym, ap, subst, 
 use Rattle.std.specs.Option.{option_map}
 use Rattle.branch_terms.specs.declared.slot.Slot.{Slot}
 use Rattle.branch_terms.specs.Forest.{cell_on_branch, cell_by, cell_of, index_of}
-use Rattle.schedule_trie.specs.Trie.{TrieOf, segment_at, slots_of, forest, keys_in, has_cell, SpotHasCellAt, IsSoundTrie, KeepsNotesOff, HoldsCellAt}
+use Rattle.schedule_trie.specs.Trie.{TrieOf, segment_at, slots_of, forest, keys_in, has_cell, SpotHasCellAt, IsSoundTrie, KeepsNotesExcept, HoldsCellAt}
 use Rattle.schedule_trie.proofs.segments.Changes.{has_cell_get}
 use Rattle.schedule_trie.proofs.branches.Lines.{slots_in_on}
 use Rattle.schedule_trie.proofs.segments.Notes.{notes_but}
@@ -40,7 +40,7 @@ one_holder c name place j k sound a b =
 -- an edit at a cell touches exactly the segment that has it
 pub notes_here : {T : Type 0} (old new : TrieOf T) (name : List ℕ) (place index key offset : ℕ) → IsSoundTrie (segment_at old.segments) old.branches old.made
     → index_of (forest old).branches name ≡ Some index → SpotHasCellAt (segment_at old.segments) (keys_in old.branches index) place (key, offset)
-    → KeepsNotesOff old new (λ k. k ≡ key) → KeepsNotesOff old new (HoldsCellAt old name place)
+    → KeepsNotesExcept old new (λ k. k ≡ key) → KeepsNotesExcept old new (HoldsCellAt old name place)
 notes_here old new name place index key offset sound found cell_there notes =
     let here = holds_cell old name place index key offset found cell_there in
     notes_but old new key (HoldsCellAt old name place) (HoldsCellAt old name place) notes (λ k h. one_holder old name place k key sound h here) here

@@ -1,7 +1,7 @@
 -- The notes that an edit keeps.
 use Rattle.std.proofs.Common.{◌≡◌, ℕ, Bool, true, false, nat_eq, Option, Some, None, IsSome, ◌⊎◌, inl, inr, refl, sym, ap, subst, ◌∙◌, true≢false, eq-eqb}
 use Rattle.std.proofs.lemmas.Bool.{eqb-true}
-use Rattle.schedule_trie.specs.Trie.{TrieOf, SegmentOf, segment_at, slots_of, slots_by, note_of, KeepsNotes, KeepsNotesBut, KeepsNotesOff, Nowhere, KeepsUnchanged, HasChanged, IsBlank}
+use Rattle.schedule_trie.specs.Trie.{TrieOf, SegmentOf, segment_at, slots_of, slots_if_some, note_of, KeepsNotes, KeepsNotesBut, KeepsNotesExcept, Nowhere, KeepsUnchanged, HasChanged, IsBlank}
 
 -- whether a number is the touched one
 is_touched : (t : Option ℕ) (k : ℕ) → (t ≡ Some k) ⊎ (t ≡ Some k → ⊥)
@@ -12,14 +12,15 @@ is_touched (Some j) k = by (nat_eq j k) refl
     by true e = inl (ap Some (eqb-true j k e))
     by false e = inr (λ s. let same : j ≡ k = cc in true≢false (sym (eq-eqb j k same) ∙ e))
 
--- if `slots_by` gives the same for two segments, `slots_of` does; if it gives None, there is none
-slots_from : {T : Type 0} (o q : Option (SegmentOf T)) → slots_by o ≡ slots_by q → slots_of o ≡ slots_of q
+-- if `slots_if_some` gives the same for two segments, `slots_of` does; if it gives None, there is
+-- no segment
+slots_from : {T : Type 0} (o q : Option (SegmentOf T)) → slots_if_some o ≡ slots_if_some q → slots_of o ≡ slots_of q
 slots_from None None e = refl
 slots_from None (Some q) e = cc
 slots_from (Some p) None e = cc
 slots_from (Some p) (Some q) e = cc
 
-none_from_slots_by : {T : Type 0} (o : Option (SegmentOf T)) → slots_by o ≡ None → o ≡ None
+none_from_slots_by : {T : Type 0} (o : Option (SegmentOf T)) → slots_if_some o ≡ None → o ≡ None
 none_from_slots_by None e = refl
 none_from_slots_by (Some p) e = cc
 
@@ -29,13 +30,13 @@ pub unchanged_kept : {T : Type 0} (old new : TrieOf T) (notes : KeepsNotes old n
 unchanged_kept {T} old new notes changed k same = by (segment_at old.segments k) refl
   where
     by : (o : Option (SegmentOf T)) → segment_at old.segments k ≡ o → segment_at new.segments k ≡ segment_at old.segments k
-    by None e = none_from_slots_by (segment_at new.segments k) (same ∙ ap slots_by e) ∙ sym e
+    by None e = none_from_slots_by (segment_at new.segments k) (same ∙ ap slots_if_some e) ∙ sym e
     by (Some p) e = elim (is_touched notes.touched k) [
       | inl touched ↦ absurd (changed k touched (slots_from (segment_at new.segments k) (segment_at old.segments k) same))
       | inr other ↦ elim (notes.kept k other (subst IsSome (sym e) refl)) [
         | inl kept ↦ kept
         | inr gone ↦
-            let none : slots_by (Some p) ≡ None = ap slots_by (sym e) ∙ sym same ∙ ap slots_by gone.0 in
+            let none : slots_if_some (Some p) ≡ None = ap slots_if_some (sym e) ∙ sym same ∙ ap slots_if_some gone.0 in
             absurd (cc)
       ]
     ]
@@ -69,7 +70,7 @@ module _ {T : Type 0} (c d : TrieOf T) (key : ℕ) (others : (j : ℕ) → (j �
       by false e = ap note_of (others k (λ f. true≢false (sym (eq-eqb k key f) ∙ e)) ∙ h)
 
   -- the segment at `key` is touched
-  pub notes_at : KeepsNotesOff c d (λ k. k ≡ key)
+  pub notes_at : KeepsNotesExcept c d (λ k. k ≡ key)
   notes_at = record {
     notes = record {
       touched = Some key;
@@ -95,7 +96,7 @@ module _ {T : Type 0} (c d : TrieOf T) (key : ℕ) (others : (j : ℕ) → (j �
   }
 
 -- `KeepsNotesBut` holds if just `key` is touched, `Must` holds of no other key, and `May` of `key`
-pub notes_but : {T : Type 0} (c d : TrieOf T) (key : ℕ) (Must May : ℕ → Type 0) → KeepsNotesOff c d (λ k. k ≡ key) → ((k : ℕ) → Must k → k ≡ key) → May key
+pub notes_but : {T : Type 0} (c d : TrieOf T) (key : ℕ) (Must May : ℕ → Type 0) → KeepsNotesExcept c d (λ k. k ≡ key) → ((k : ℕ) → Must k → k ≡ key) → May key
     → KeepsNotesBut c d Must May
 notes_but c d key Must May n must may =
     record { notes = n.notes; each = λ k h. n.each k (must k h); only = λ k e. subst May (sym (n.only k e)) may }

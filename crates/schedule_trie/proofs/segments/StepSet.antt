@@ -1,5 +1,6 @@
--- Setting a step in a segment of a trie.
-use Rattle.std.proofs.Common.{map, ◌++◌, ◌≡◌, ℕ, ◌<◌, Bool, true, false, nat_eq, zero, suc, ◌≤◌, List, [], ◌∷◌, length, slice_get, slice_index_or, Option, Some, None, IsSome, Ok, Err, refl, sym, ap, subst, ◌∙◌, true≢false, arith, cond, eq-eqb}
+-- Segments in terms of the fields: one gets another step or note, or an equal one takes its place;
+-- or only reserved memory changes.
+use Rattle.std.proofs.Common.{map, ◌++◌, ◌≡◌, ℕ, ◌<◌, Bool, true, false, nat_eq, zero, suc, ◌≤◌, List, [], ◌∷◌, length, slice_get, slice_index_or, Option, Some, None, IsSome, Ok, Err, refl, sym, ap, subst, ◌∙◌, true≢false, arith, cond, eq-eqb, Result}
 use Rattle.std.proofs.lemmas.Bool.{eqb-true, lt-leb}
 use Rattle.std.specs.Option.{IfSome, option_map}
 use Rattle.std.proofs.Math.ListN.{get_or-map}
@@ -11,8 +12,8 @@ use Rattle.schedule_trie.specs.declared.trie.Trie.TheInside.{Inside}
 use Rattle.branch_terms.specs.declared.refusal.Refusal.TheVariants.{NoPlace}
 use Rattle.branch_terms.specs.Forest.{branch, replace_step, at_cell, on_found, replaced_by, index_of, slots_in, cell_in, cell_of, everywhere}
 use Rattle.schedule_trie.specs.Slots.{set_step}
-use Rattle.schedule_trie.specs.Trie.{line, KeyedBranch, IsNoted, with_note, branches_on, TrieOf, SegmentOf, segment, segment_at, slots_of, forest, keys_in, SpotHasCellAt, note_of, IsSoundTrie, IsCut, IsWithin, IsSegment, IsStepSet}
-use Rattle.schedule_trie.specs.TrieFields.{segment_of, trie_of, IsHeldTrie}
+use Rattle.schedule_trie.specs.Trie.{line, KeyedBranch, IsNoted, with_note, branches_on, TrieOf, SegmentOf, segment, segment_at, slots_of, forest, keys_in, SpotHasCellAt, note_of, IsSoundTrie, IsCut, IsWithin, IsSegment, IsStepSet, IsWhole}
+use Rattle.schedule_trie.specs.TrieFields.{segment_of, trie_of, IsWholeWithPaths, segments_of, keyed_branches, AreLengths, AreNames, IsTrie}
 use Rattle.branch_terms.specs.declared.limits.Limits.{Limits}
 use Rattle.branch_terms.specs.declared.limits.TheConstants.{MOST_CELLS_MADE}
 use Rattle.schedule_trie.proofs.segments.Changes.{SameCells, segment_at_set, Changes, sound_same, replaced_everywhere, replaced_same}
@@ -20,6 +21,10 @@ use Rattle.schedule_trie.proofs.branches.Lines.{slots_in_on}
 use Rattle.schedule_trie.proofs.segments.Notes.{notes_at}
 use Rattle.branch_terms.proofs.Lists.{cell_in_at, slice_get_some}
 use Rattle.std.proofs.lemmas.Option.{slice_get_within}
+use Rattle.std.specs.Map.{keys_of}
+use Rattle.std.specs.Result.{OnErr}
+use Rattle.std.proofs.Math.Seq.{map-set_same}
+use Rattle.schedule_trie.proofs.Results.{always_on_err}
 
 pub key_within : {X : Type 0} (xs : List (Option X)) (key : ℕ) (x : X) → slice_index_or xs key None ≡ Some x → key < length xs
 key_within [] key x e = absurd (cc)
@@ -91,7 +96,7 @@ within_still old new made branches few limits some fewer fits was = record {
   most_branches = subst (λ l. l.branches ≤ 1024) (sym limits) was.most_branches;
 }
 
-module _ {T : Type 0} (t : Inside T) (key offset : ℕ) (step : Step) (v w : Segment T) (held : IsHeldTrie t) (there : item_at t.segments key ≡ Some v)
+module _ {T : Type 0} (t : Inside T) (key offset : ℕ) (step : Step) (v w : Segment T) (held : IsWholeWithPaths t) (there : item_at t.segments key ≡ Some v)
     (inside : offset < length v.slots.items) (slots : w.slots.items ≡ set_step v.slots.items offset step) (note : w.note ≡ None) where
   abbrev after : Inside T
   after = with_segment t key w
@@ -110,7 +115,7 @@ module _ {T : Type 0} (t : Inside T) (key offset : ℕ) (step : Step) (v w : Seg
       (replaced_same (segment_at (trie_of t).segments) (segment_at (trie_of after).segments) (trie_of t).branches t.made key offset step first.0 held.whole.sound here seen.change.others first.1)
       (trie_of t).branches t.made held.whole.sound
 
-  pub set_held : IsHeldTrie after
+  pub set_held : IsWholeWithPaths after
   set_held = record { whole = record { sound = set_sound; within = held.whole.within }; paths = held.paths }
 
   pub is_step_set : IsStepSet (trie_of t) (trie_of after) key offset step
@@ -145,7 +150,7 @@ module _ {T : Type 0} (old new : TrieOf T) (name : List ℕ) (place index key of
       ∙ sym (λ i. Ok (record { branches = set.everywhere_set the_cell.0 the_cell.1 i; made = set.made i }))
 
 -- the note of a segment is set
-module _ {T : Type 0} (t : Inside T) (key : ℕ) (v w : Segment T) (held : IsHeldTrie t) (there : item_at t.segments key ≡ Some v) (same : w.slots ≡ v.slots) where
+module _ {T : Type 0} (t : Inside T) (key : ℕ) (v w : Segment T) (held : IsWholeWithPaths t) (there : item_at t.segments key ≡ Some v) (same : w.slots ≡ v.slots) where
   abbrev noted : Inside T
   noted = with_segment t key w
 
@@ -171,7 +176,7 @@ module _ {T : Type 0} (t : Inside T) (key : ℕ) (v w : Segment T) (held : IsHel
       by_was k true e h = subst (λ j. IsSome (segment_at (trie_of t).segments j)) (sym (eqb-true k key e)) (subst IsSome (sym note_seen.was) refl)
       by_was k false e h = subst IsSome (note_seen.change.others k (λ f. true≢false (sym (eq-eqb k key f) ∙ e))) h
 
-  pub note_held : IsHeldTrie noted
+  pub note_held : IsWholeWithPaths noted
   note_held = record {
     whole = record {
       sound = sound_same (segment_at (trie_of t).segments) (segment_at (trie_of noted).segments) note_same (trie_of t).branches t.made held.whole.sound;
@@ -199,3 +204,43 @@ module _ {T : Type 0} (t : Inside T) (key : ℕ) (v w : Segment T) (held : IsHel
 
   pub is_noted_with : (note : Option T) → w.note ≡ note → IsNoted (trie_of t) (trie_of noted) key note
   is_noted_with other e = subst (IsNoted (trie_of t) (trie_of noted) key) e is_noted
+
+-- the trie is unchanged when a segment is replaced by an equal one
+pub equal_item_seen : {T : Type 0} (t : Inside T) (key : ℕ) (v w : Segment T) → item_at t.segments key ≡ Some v → w.slots.items ≡ v.slots.items → w.note ≡ v.note
+    → trie_of (record t { segments = with_item t.segments key w }) ≡ trie_of t
+equal_item_seen t key v w there items note =
+    let same : segment_of (Some w) ≡ segment_of (item_at t.segments key) = (λ i. Some (segment (items i) (note i))) ∙ ap segment_of (sym there) in
+    ap (λ p. record (trie_of t) { segments = p }) (map-set_same segment_of t.segments.items key (Some w) None same)
+
+pub equal_item_kept : {T : Type 0} (t : Inside T) (key : ℕ) (w : Segment T) → IsTrie t → trie_of (record t { segments = with_item t.segments key w }) ≡ trie_of t
+    → IsTrie (record t { segments = with_item t.segments key w })
+equal_item_kept t key w kept same = record {
+  held = record { whole = subst IsWhole (sym same) kept.held.whole; paths = kept.held.paths };
+  lengths = subst (λ c. AreLengths t.branches.entries (forest c).branches) (sym same) kept.lengths;
+  names = kept.names;
+}
+
+-- the fields that contracts see are equal: at most reserved memory is new
+module _ {T : Type 0} (t u : Inside T) (entries : u.branches.entries ≡ t.branches.entries)
+    (segments : u.segments ≡ t.segments) (made : u.made ≡ t.made) (limits : u.limits ≡ t.limits) where
+  reserved_seen : trie_of u ≡ trie_of t
+  reserved_seen = λ i. record {
+    branches = keyed_branches (keys_of (entries i)) (segments i).paths;
+    segments = segments_of (segments i).items;
+    made = made i;
+    limits = limits i;
+  }
+
+  pub reserved_kept : IsTrie t → IsTrie u
+  reserved_kept kept = record {
+    held = record {
+      whole = subst IsWhole (sym reserved_seen) kept.held.whole;
+      paths = ap (λ s. length s.paths) segments ∙ kept.held.paths ∙ sym (ap (λ es. length (keys_of es)) entries);
+    };
+    lengths = subst (λ es. AreLengths es (forest (trie_of u)).branches) (sym entries)
+        (subst (λ c. AreLengths t.branches.entries (forest c).branches) (sym reserved_seen) kept.lengths);
+    names = subst (λ es. AreNames (keys_of es)) (sym entries) kept.names;
+  }
+
+  pub reserved_err : {A E : Type 0} (r : Result A E) {cut : TrieOf T} → trie_of t ≡ cut → OnErr r (trie_of u ≡ cut)
+  reserved_err r was = always_on_err r _ (reserved_seen ∙ was)

@@ -1,7 +1,7 @@
 -- A fork, as a change of the trie.
 use Rattle.std.specs.Prelude.{ℕ, ◌≡◌, List, [], ◌∷◌, ◌++◌, Some, length, take}
 use Rattle.branch_terms.specs.Forest.{branch, index_of, slots_in}
-use Rattle.schedule_trie.specs.Trie.{TrieOf, forest, keyed_branch, keys_in, IsCut, KeepsNotesOff, IsParted}
+use Rattle.schedule_trie.specs.Trie.{TrieOf, forest, keyed_branch, keys_in, IsCut, KeepsNotesExcept, IsParted}
 
 -- from trie `old` to trie `new`, a branch of this name is added at the end of the list of branches,
 -- with the first `place` cells of the branch at `index`; only a segment that has cells on both
@@ -10,7 +10,7 @@ pub record IsBranchForked {T : Type 0} (old new : TrieOf T) (index place : ℕ) 
   pub branches : (forest new).branches ≡ (forest old).branches ++ branch name (take place (slots_in (forest old).branches index)) ∷ []
   pub made : new.made ≡ old.made
   pub limits : new.limits ≡ old.limits
-  pub notes : (source : List ℕ) → index_of (forest old).branches source ≡ Some index → KeepsNotesOff old new (IsParted old source place)
+  pub notes : (source : List ℕ) → index_of (forest old).branches source ≡ Some index → KeepsNotesExcept old new (IsParted old source place)
   pub cut : IsCut new
 
 -- from trie `old` to trie `new`, a branch of this name is added at the end of the list of branches,

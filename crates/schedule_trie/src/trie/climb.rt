@@ -10,12 +10,12 @@ ghost use Rattle.schedule_trie.specs.Climbs.{keys_to, HasClimbedTo};
 use super::Trie;
 use crate::segment::SegKey;
 use branch_terms::slot::Slot;
-use lineage::lineage::Above;
+use lineage::lineage::KeyWord;
 
 impl<T: Drop> Trie<T> {
     /// The number of cells of the branch at `index` down to the end of its segment `last`; 0 if
     /// `last` is `None`.
-    pub(super) fn len_to(&self, index: usize, last: Above) -> u32
+    pub(super) fn len_to(&self, index: usize, last: KeyWord) -> u32
         requires { HasClimbedTo (keys_in self.now.branches index) last }
         ensures { result ≡ length (line (segment_at self.now.segments)
             (keys_to (keys_in self.now.branches index) last)) }
@@ -41,12 +41,12 @@ impl<T: Drop> Trie<T> {
             (keys_in self.now.branches index) place) }
         ensures none { IfNone result (length (slots_in (forest self.now).branches index) ≤ place) }
     {
-        self.find_cell_of(index, self.len_at(index), place)
+        self.find_cell_with_len(index, self.len_at(index), place)
     }
 
     /// Same as `find_cell`, but takes the number of the branch's cells, `len`, so that they aren't
     /// counted.
-    pub fn find_cell_of(&self, index: usize, len: u32, place: u32) -> Option<(SegKey, usize)>
+    pub fn find_cell_with_len(&self, index: usize, len: u32, place: u32) -> Option<(SegKey, usize)>
         requires { len ≡ length (slots_in (forest self.now).branches index) }
         ensures found { IfSome result (SpotHasCellAt (segment_at self.now.segments)
             (keys_in self.now.branches index) place) }
@@ -92,7 +92,7 @@ impl<T: Drop> Trie<T> {
     /// One step of a climb: the key `at`, the cells of its segment, and the key of the segment
     /// above, or no key if no segment is above. `None` if the climb has ended.
     #[inline(always)]
-    fn slots_up(&self, at: Above) -> Option<(SegKey, &[Slot], Above)>
+    fn slots_up(&self, at: KeyWord) -> Option<(SegKey, &[Slot], KeyWord)>
         ensures key { IfSome result (λ s. at ≡ Some s.0) }
         ensures slots { IfSome result (λ s. s.1.now ≡ slots_of (segment_at self.now.segments s.0)) }
         ensures whole { IsWhole self.now }

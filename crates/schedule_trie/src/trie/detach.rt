@@ -4,7 +4,7 @@ ghost use Rattle.std.specs.Prelude.{◌≡◌, ◌<◌, ◌≤◌, ◌+◌, leng
 ghost use Rattle.schedule_trie.specs.Edits.{Detach, IsEdited, IsUnedited};
 ghost use Rattle.branch_terms.specs.Forest.{slots_in};
 ghost use Rattle.schedule_trie.specs.Trie.{forest, segment_at, keys_in};
-ghost use Rattle.schedule_trie.specs.changes.Copies.{AreCopies, IsDetached};
+ghost use Rattle.schedule_trie.specs.changes.Detaches.{AreCopies, IsDetached};
 
 use super::Trie;
 use crate::edit::Edited;

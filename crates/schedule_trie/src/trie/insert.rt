@@ -115,7 +115,7 @@ impl<T: Drop> Trie<T> {
             step,
         };
         let segment = self.segments.item_mut(key);
-        segment.insert(&mut self.copies, offset, slot)?;
+        segment.insert(&mut self.scratch, offset, slot)?;
         self.branches.forget_lengths();
         self.made += 1;
         Ok(())

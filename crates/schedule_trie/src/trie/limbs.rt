@@ -5,7 +5,7 @@ ghost use Rattle.branch_terms.specs.Forest.{name_in, step_of};
 ghost use Rattle.schedule_trie.specs.Trie.{forest, has, keys_in, line, segment_at, IsWhole, Once};
 ghost use Rattle.branch_terms.specs.Limbs.{FitLimits, AreLawfulLimbs, forest_of, limb_of, limbs};
 ghost use Rattle.branch_terms.specs.Renumbering.{IsRenumbered};
-ghost use Rattle.schedule_trie.specs.Marks.{HasPlaces, IsOwnPart, AreMarked, MarksFirst};
+ghost use Rattle.schedule_trie.specs.Marks.{CoversSegments, IsOwnPart, AreMarked, MarksFirst};
 
 use super::Trie;
 use crate::mark::Mark;
@@ -46,12 +46,12 @@ impl<T: Drop> Trie<T> {
         Ok(limbs)
     }
 
-    /// A list with a place for each segment's mark. No segment is marked yet.
+    /// A list long enough for each segment's mark. No segment is marked yet.
     fn no_marks(&self, alloc: Global) -> Result<Vec<Option<Mark>>, AllocError>
         ensures { IfOk result (λ marks. MarksFirst self.now 0 marks.items) }
     {
         let mut marks = Vec::new(alloc);
-        for _ in 0..self.segments.room() {
+        for _ in 0..self.segments.capacity() {
             marks.push(None)?;
         }
         Ok(marks)
@@ -91,7 +91,7 @@ impl<T: Drop> Trie<T> {
         marks: &[Option<Mark>],
         index: usize,
     ) -> Result<(Mark, Vec<SegKey>), AllocError>
-        requires { HasPlaces self.now marks.now }
+        requires { CoversSegments self.now marks.now }
         ensures own { IfOk result
             (λ r. IsOwnPart marks.now (keys_in self.now.branches index) r.0 r.1.items) }
         ensures whole { IsWhole self.now }

@@ -5,7 +5,7 @@ ghost use Rattle.branch_terms.specs.Forest.{IsRefused};
 ghost use Rattle.schedule_trie.specs.Trie.{AreLimits, forest, IsBlank, IsCut};
 ghost use Rattle.branch_terms.specs.Limbs as spec;
 ghost use Rattle.branch_terms.specs.Limbs.{AreLawfulLimbs, own_cell_count, forest_of, loaded};
-ghost use Rattle.schedule_trie.specs.changes.Loads.{CanGrow, IsGrown};
+ghost use Rattle.schedule_trie.specs.changes.Loads.{CanAddLimb, IsLimbAdded};
 
 use super::Trie;
 use branch_terms::limb::Limb;
@@ -39,7 +39,7 @@ impl<T: Drop> Trie<T> {
         ensures blank { IfOk result IsBlank }
         ensures err { IfErr result (IsRefused (loaded limits limbs.now)) }
     {
-        if bring_more(limbs, limits.cells) {
+        if have_more_cells(limbs, limits.cells) {
             return Err(Refusal::Full);
         }
         if limbs.len() > limits.branches as usize {
@@ -66,16 +66,16 @@ impl<T: Drop> Trie<T> {
         };
         let mut trie = Trie::with_steps(alloc, limits, first.name, first.steps.as_slice())?;
         for limb in rest {
-            trie.grow(alloc, limb)?;
+            trie.add_limb(alloc, limb)?;
         }
         Ok(trie)
     }
 
     /// Adds the limb's branch at the end of the list of branches. If memory runs out, the branch
     /// may have been added with only some of its steps.
-    fn grow(&mut self, alloc: Global, limb: &Limb) -> Result<(), AllocError>
-        requires { CanGrow self.old limb.now }
-        ensures { OnOk result (IsGrown self.old self.new limb.now) }
+    fn add_limb(&mut self, alloc: Global, limb: &Limb) -> Result<(), AllocError>
+        requires { CanAddLimb self.old limb.now }
+        ensures { OnOk result (IsLimbAdded self.old self.new limb.now) }
     {
         self.lemma_invariant();
         let from = limb.from as usize;
@@ -91,7 +91,7 @@ impl<T: Drop> Trie<T> {
 
 /// Whether these limbs have more than `most` own cells in total. A limb has an own cell for each of
 /// its steps.
-fn bring_more(limbs: &[Limb], most: u32) -> bool
+fn have_more_cells(limbs: &[Limb], most: u32) -> bool
     ensures { result ≡ nat_lt most (spec.own_cell_count limbs.now) }
 {
     let mut room = most as usize;

@@ -1,5 +1,5 @@
-//! Lists, and pages that are made without a look. Each function drops at most one page, since a
-//! page has many variants.
+//! Pages that are made without a look. Each function drops at most one page, since a page has many
+//! variants.
 
 use super::charts::opened;
 use super::name;
@@ -11,22 +11,10 @@ use frames::types::{Event, Op};
 use pages::page::head::Head;
 use pages::page::{Page, config_page, events_page};
 use pages::query::{ConfigKind, EventsKind};
-use schedule_trie::{Listed, Name};
+use schedule_trie::Name;
 use std::alloc::{AllocError, Global};
 use std::test::Fail;
 use views::branches::branches_page;
-
-#[test]
-fn each_call_of_a_list(rt: HostRuntime) -> Result<(), Fail> {
-    let mut list = Listed::of(rt.alloc(), &[1, 2])?;
-    list.push(3)?;
-    let copy = list.clone()?;
-    let again = Listed::of(copy.allocator(), copy.as_slice())?;
-    assert!(rt; again.as_slice() == [1, 2, 3].as_slice());
-    let made_again = Listed::new(list.into_vec());
-    assert!(rt; made_again.as_slice() == [1, 2, 3].as_slice());
-    Ok(())
-}
 
 /// The head of a page at the beginning of a branch of one step.
 fn head(branch: Name) -> Head {

@@ -51,7 +51,7 @@ fn branches_are_saved(rt: HostRuntime) -> Result<(), Fail> {
 }
 
 #[test]
-fn program_has_no_words(rt: HostRuntime) -> Result<(), Fail> {
+fn tool_is_run_without_words(rt: HostRuntime) -> Result<(), Fail> {
     let words = Ok(Vec::new(rt.alloc()));
     let mut reader = SCRIPT;
     let mut writer = Vec::new(rt.alloc());

@@ -1,6 +1,6 @@
 //! Serves a script at a desk after two chairs worked at it and were joined.
 
-use crate::threads::desks::{Office, opened};
+use crate::threads::desks::{Tester, opened};
 use std::test::Fail;
 use towerbench::serve;
 
@@ -13,7 +13,7 @@ const ANSWERS: &[u8] = b"0: branches 1 edits 1 made 2\n  main 2\n\
 #[test]
 fn served_after_two_chairs(rt: HostRuntime) -> Result<(), Fail> {
     let (desk, mut chair) = opened(rt.alloc())?;
-    Office::new(&rt, rt.alloc(), &desk).insert_by_two(&mut chair);
+    Tester::new(&rt, rt.alloc(), &desk).insert_by_two(&mut chair);
     let mut reader = SCRIPT;
     let mut writer = Vec::new(rt.alloc());
     let served = serve(&rt, rt.alloc(), desk, chair, 1, &mut reader, &mut writer);

@@ -1,4 +1,4 @@
-//! Configurations and replays of `Switch`.
+//! Configurations of `Switch`; replays and runs of a safe bit.
 
 use super::switch::Switch;
 use super::{GO, READ, WRITE};

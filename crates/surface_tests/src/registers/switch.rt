@@ -49,7 +49,8 @@ impl Register for Switch {
     ghost use Rattle.std.specs.Prelude.{refl};
     ghost use Rattle.safe_bit.specs.Parts.{HasSize};
     ghost use Rattle.frames.specs.Equality.{op_decides};
-    ghost use Rattle.surface_tests.specs.Switch.{switch_size, SwitchReaches, switch_point, switch_lawful, switch_frames_give_point};
+    ghost use Rattle.surface_tests.specs.Switch.{switch_size, SwitchReaches, switch_point};
+    ghost use Rattle.surface_tests.specs.laws.Switch.{switch_lawful, switch_frames_give_point};
 
     ghost Holds = { λ _. HasSize switch_size };
 

@@ -68,21 +68,21 @@ fn news(desk: &Desk<Switch>, chair: &mut Chair<Switch>) -> u64
 
 /// A desk, with what its calls need. The contracts of its calls promise nothing about histories.
 #[derive(Drop)]
-pub(crate) struct Office<'a, R> {
+pub(crate) struct Tester<'a, R> {
     rt: &'a R,
     alloc: Global,
     desk: &'a Desk<Switch>,
 }
 
-impl<'a, R> Office<'a, R> {
-    pub(crate) fn new(rt: &'a R, alloc: Global, desk: &'a Desk<Switch>) -> Office<'a, R>
+impl<'a, R> Tester<'a, R> {
+    pub(crate) fn new(rt: &'a R, alloc: Global, desk: &'a Desk<Switch>) -> Tester<'a, R>
         ensures { result.desk.now ≡ desk.now }
     {
-        Office { rt, alloc, desk }
+        Tester { rt, alloc, desk }
     }
 }
 
-impl<R: Abort + Wait> Office<'_, R> {
+impl<R: Abort + Wait> Tester<'_, R> {
     /// Makes the insert, guarded by edit count 0.
     fn insert_guarded(&self, chair: &mut Chair<Switch>, who: u32) -> Receipt
         requires { IsChairOf (λ _. switch) self.now.desk.now chair.old }
@@ -170,7 +170,7 @@ impl<R: Abort + Wait> Office<'_, R> {
     }
 }
 
-impl<R: Abort + Threads + Wait + Sync> Office<'_, R> {
+impl<R: Abort + Threads + Wait + Sync> Tester<'_, R> {
     /// Fills `main` with one thief.
     fn fill(&self, chair: &mut Chair<Switch>) -> Result<Report, Refusal>
         requires { IsChairOf (λ _. switch) self.now.desk.now chair.old }
@@ -218,22 +218,22 @@ fn receipt(at: u64, reply: Reply) -> Receipt {
 }
 
 /// Makes each call at a desk of one read.
-fn use_all<R: Abort + Threads + Wait + Sync>(office: &Office<'_, R>, chair: &mut Chair<Switch>)
-    requires at { IsChairOf (λ _. switch) office.now.desk.now chair.old }
+fn use_all<R: Abort + Threads + Wait + Sync>(tester: &Tester<'_, R>, chair: &mut Chair<Switch>)
+    requires at { IsChairOf (λ _. switch) tester.now.desk.now chair.old }
     requires every { (view chair.old).shares ≡ every_share }
-    ensures { IsChairOf (λ _. switch) office.now.desk.now chair.new }
+    ensures { IsChairOf (λ _. switch) tester.now.desk.now chair.new }
 {
-    let (first, second) = office.insert_by_two(chair);
-    assert!(office.rt; first == receipt(1, Reply::Edited(1)));
-    assert!(office.rt; second == receipt(2, Reply::No(Refusal::Newer(1))));
-    assert_eq!(office.rt; news(office.desk, chair), 2);
-    assert!(office.rt; office.look_fill_and_save(chair).is_ok());
+    let (first, second) = tester.insert_by_two(chair);
+    assert!(tester.rt; first == receipt(1, Reply::Edited(1)));
+    assert!(tester.rt; second == receipt(2, Reply::No(Refusal::Newer(1))));
+    assert_eq!(tester.rt; news(tester.desk, chair), 2);
+    assert!(tester.rt; tester.look_fill_and_save(chair).is_ok());
 }
 
 #[test]
 fn each_call_of_a_desk(rt: HostRuntime) -> Result<(), Fail> {
     let (desk, mut chair) = opened(rt.alloc())?;
-    use_all(&Office::new(&rt, rt.alloc(), &desk), &mut chair);
+    use_all(&Tester::new(&rt, rt.alloc(), &desk), &mut chair);
     let Some(log) = close(desk, chair) else {
         panic!(rt; "a share is missing")
     };

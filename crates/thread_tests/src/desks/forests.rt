@@ -41,7 +41,7 @@ const ROUNDS: usize = 64;
 const NAMES: &[u8] = b"abcdefgh";
 
 /// Limits for each of these forests.
-fn wide_limits() -> Limits
+fn forest_limits() -> Limits
     ensures { AreLimits result }
 {
     Limits {
@@ -83,7 +83,7 @@ impl Forest {
     fn new(alloc: Global) -> Result<Forest, Refusal> {
         Ok(Forest {
             alloc,
-            trie: Trie::new(alloc, wide_limits(), &[])?,
+            trie: Trie::new(alloc, forest_limits(), &[])?,
             commands: Vec::new(alloc),
         })
     }
@@ -130,12 +130,11 @@ impl Forest {
 
     /// Inserts `count` reads at a place.
     fn insert_reads(&mut self, branch: Name, place: u32, count: u32) -> Result<(), AllocError> {
-        let step = READ;
         for _ in 0..count {
             self.edit(Command::Insert {
                 b: branch,
                 k: place,
-                step,
+                step: READ,
             })?;
         }
         Ok(())
@@ -155,7 +154,6 @@ impl Forest {
         let Some((branch, place)) = self.choose(sequence) else {
             return Ok(());
         };
-        let name = fresh;
         let command = match sequence.below(8) {
             0 => Command::Detach { b: branch },
             1 => Command::Remove {
@@ -166,7 +164,7 @@ impl Forest {
             _ => Command::Fork {
                 b: branch,
                 k: place,
-                name,
+                name: fresh,
             },
         };
         self.edit(command)
@@ -353,7 +351,7 @@ fn is_filled_by<R: Abort + Threads + Wait + Sync, G: Gate<R> + Tally + Sync>(
 ) -> Result<bool, Refusal>
     requires { thieves ≤ 4 }
 {
-    let (desk, mut chair) = opened_with_writes(alloc, 0, wide_limits())?;
+    let (desk, mut chair) = opened_with_writes(alloc, 0, forest_limits())?;
     let tester = Tester::new(rt, alloc, &desk);
     is_filled_at(&tester, &mut chair, commands, counts, thieves, offers)
 }

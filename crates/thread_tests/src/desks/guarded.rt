@@ -99,7 +99,8 @@ fn guard_edits<R: Abort + Threads + Wait + Sync>(
     let Some((log, text)) = log_and_text(rt, alloc, desk, &[], works, query)? else {
         panic!(rt; "an edit or the log is missing")
     };
-    assert!(rt; edits_of(&log, 0) == 50 && edits_of(&log, 1) == 50);
+    let all = EDITS as usize;
+    assert!(rt; edits_of(&log, 0) == all && edits_of(&log, 1) == all);
     assert!(rt; is_replayed(rt, alloc, &[], &log, query, &text)?);
     Ok(())
 }

@@ -4,7 +4,7 @@ use Rattle.frames.specs.Behaviour.{Behaviour}
 use Rattle.towers.specs.Towers.{StampedPoint}
 use Rattle.matrix.specs.Program.{matrix_table}
 use Rattle.matrix.specs.Limits.{matrix_refusal}
-use Rattle.towers.specs.Built.{matrix_fits, ok_unless_refused}
+use Rattle.towers.specs.laws.Built.{matrix_fits, ok_unless_refused}
 use Rattle.towers.proofs.matrix.Goals as goal
 
 pub unwrap-requires : goal.unwrap-requires

@@ -1,10 +1,11 @@
 -- The unary number's rules meet the laws that every layer's rules must meet; and its equality test
 -- on tasks (points at which a bit is written or read) is right.
-use Rattle.std.proofs.Common.{◌≡◌, ℕ, zero, suc, ◌+◌, ◌-◌, ◌<◌, ◌≤◌, Bool, true, false, refl, sym, ap, arith, nat_eq}
+use Rattle.std.proofs.Common.{◌≡◌, ℕ, zero, suc, ◌+◌, ◌-◌, ◌<◌, ◌≤◌, Bool, true, false, refl, sym, ap, arith, nat_eq, eq-eqb}
 use mathlib.Core.Bool.{◌&&◌}
 use Rattle.std.specs.Bool.{Decides}
 use Rattle.std.specs.Prelude.{◌==◌, if◌then◌else◌}
-use Rattle.std.proofs.lemmas.Bool.Decides.{Decides-and, Decides-eqb, Decides-like, nat_tests}
+use Rattle.std.proofs.lemmas.Bool.{ne_eqb}
+use Rattle.std.proofs.lemmas.Bool.Decides.{Decides-and, Decides-eqb, Decides-like}
 use Rattle.frames.specs.declared.types.Op.{Op}
 use Rattle.frames.specs.declared.types.Op.TheVariants as op
 use Rattle.frames.specs.declared.types.Outcome.{Outcome}
@@ -22,8 +23,8 @@ use Rattle.unary_number.specs.Program.{clears_below, after_look, looks_above, un
 
 module _ (not_found : Outcome) (values processes : ℕ) (two : LEAST_VALUES ≤ values) (some : 0 < processes)
     (answered : Answers values op.Read not_found) where
-  first_bit : (value bit : ℕ) → (if bit == value then 1 else 0) < 2
-  first_bit value bit = by_test (bit == value)
+  first_is_bit : (value bit : ℕ) → (if bit == value then 1 else 0) < 2
+  first_is_bit value bit = by_test (bit == value)
     where
       by_test : (same : Bool) → (if same then 1 else 0) < 2
       by_test true = omega arith
@@ -49,12 +50,6 @@ module _ (not_found : Outcome) (values processes : ℕ) (two : LEAST_VALUES ≤ 
           (if found then Ends (Value x) else looks_above not_found reader i left)
       by_test true = small
       by_test false = looks_above_sound who reader i left same above below all
-
-  same_bit : (x : ℕ) → (x == x) ≡ true
-  same_bit x = grind (arith, nat_tests)
-
-  other_bit : (i x : ℕ) → i < x → (i == x) ≡ false
-  other_bit i x below = grind (arith, nat_tests)
 
   clears_fall : (w i n : ℕ) → i ≤ n → Falls unary_left n (clears_below w i)
   clears_fall w zero n le = tt
@@ -108,8 +103,8 @@ module _ (not_found : Outcome) (values processes : ℕ) (two : LEAST_VALUES ≤ 
   may_be_at_suits who _ _ at_task = absurd at_task
 
   frame_gives_task : (who : ℕ) (o : Op) (task : UnaryTask) → UnaryMayBeAt values processes who o task → (unary_find values who (unary_frame task) ≡ task) × ((unary_frame task).op ≡ o)
-  frame_gives_task who (op.Write w) (Setting x) at_task = (ap (λ same. if same then Setting x else Clearing x x) (same_bit x), ap op.Write at_task.1)
-  frame_gives_task who (op.Write w) (Clearing x i) at_task = (ap (λ same. if same then Setting x else Clearing x i) (other_bit i x (omega (arith, at_task.1, at_task.2))), ap op.Write at_task.1)
+  frame_gives_task who (op.Write w) (Setting x) at_task = (ap (λ same. if same then Setting x else Clearing x x) (eq-eqb x x refl), ap op.Write at_task.1)
+  frame_gives_task who (op.Write w) (Clearing x i) at_task = (ap (λ same. if same then Setting x else Clearing x i) (ne_eqb i x (λ e. omega (arith, e, at_task.1, at_task.2))), ap op.Write at_task.1)
   frame_gives_task who op.Read (Looking reader i left) at_task =
       let left_is : values - 1 - i ≡ left = omega (arith, at_task.3) in
       (λ k. Looking (sym at_task.0 k) i (left_is k), refl)
@@ -121,7 +116,7 @@ module _ (not_found : Outcome) (values processes : ℕ) (two : LEAST_VALUES ≤ 
   -- the outcome of a scan that finds no 1
   pub table_sound : IsSoundTable (unary_table_with not_found values processes) (UnaryMayBeAt values processes) unary_left
   table_sound = writer.one_writer_sound (unary_table_with not_found values processes) (UnaryMayBeAt values processes) unary_left (λ who o. refl) (some)
-      (λ v j lt below. first_bit v j) (λ v k lt below. omega arith)
+      (λ v j lt below. first_is_bit v j) (λ v k lt below. omega arith)
       asks_fit may_be_at_suits frame_gives_task begins_sound rest_sound rest_falls
 
 -- the unary number's rules meet the laws that every layer's rules must meet, since a scan that

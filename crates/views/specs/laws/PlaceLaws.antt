@@ -14,7 +14,7 @@ use Rattle.frames.specs.declared.types.Step.TheVariants as step
 use Rattle.frames.specs.Equality.{configuration_eq, configuration_per, configuration_decides, SameConfiguration}
 use Rattle.cutoff.specs.Fitting.{RunPart}
 use Rattle.views.specs.Digests.{digest}
-use Rattle.views.specs.Places.{hashed_steps, last_steps}
+use Rattle.views.specs.HashedSteps.{hashed_steps, last_steps}
 
 -- whether two steps are equal
 abbrev pub step_eq : Step → Step → Bool

@@ -44,7 +44,7 @@ impl<R: Register> Content<R> {
             Content::Last(kind, head, run, count) => {
                 part_page(alloc, lens, *kind, head, run, *count)
             }
-            Content::Runs(kind, head, runs) => all_page(alloc, *kind, head, runs),
+            Content::Runs(kind, head, runs) => runs_page(alloc, *kind, head, runs),
             Content::Ready(page) => page.clone(),
         }
     }
@@ -72,13 +72,13 @@ fn part_page<R: Register>(
 }
 
 /// The page of the events of these runs, each up to its count of steps.
-fn all_page<R: Register>(
+fn runs_page<R: Register>(
     alloc: Global,
     kind: EventsKind,
     head: &Head,
     runs: &Runs<R>,
 ) -> Result<Page, AllocError>
-    ensures { IfOk result (λ page. page ≡ spec.all_page R.behaviour kind head.now runs.now) }
+    ensures { IfOk result (λ page. page ≡ spec.runs_page R.behaviour kind head.now runs.now) }
 {
     let events = history_of(alloc, runs.as_slice())?;
     events_page(alloc, kind, head, events)

@@ -5,7 +5,7 @@ use Rattle.breadth_first.specs.Paths.{IsTrail, depth_at}
 use Rattle.answers.specs.Gathered.{IsBuilding}
 use Rattle.answers.specs.Graphs.{moves_of}
 use Rattle.answers.proofs.Building.{building_first}
-use Rattle.answers.proofs.Goals.{node_at}
+use Rattle.answers.proofs.Building.{node_at}
 use Rattle.answers.proofs.find.walk_to.Goals as goal
 
 pub path_to-requires-clause-trail : goal.path_to-requires-clause-trail

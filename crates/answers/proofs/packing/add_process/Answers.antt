@@ -4,7 +4,7 @@ use Rattle.std.proofs.lemmas.Result.{on_ok_weaker}
 use Rattle.frames.specs.Configuration.{is_stopped, running_at}
 use Rattle.frames.specs.Flat.{stack_of}
 use Rattle.answers.specs.Packing.{stack_numbers, outcomes_numbers}
-use Rattle.answers.proofs.Written.{packed_more}
+use Rattle.answers.proofs.PackedSoFar.{packed_more}
 use Rattle.answers.proofs.packing.add_process.Goals as goal
 
 pub returns : goal.returns

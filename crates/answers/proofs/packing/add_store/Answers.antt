@@ -1,7 +1,7 @@
 use Rattle.std.proofs.Common.{◌++◌, ap, ◌∙◌, map}
 use Rattle.std.proofs.lemmas.Result.{on_ok_weaker}
 use Rattle.answers.specs.Packing.{packed, by_gaps, cell_code}
-use Rattle.answers.proofs.Written.{packed_more}
+use Rattle.answers.proofs.PackedSoFar.{packed_more}
 use Rattle.answers.proofs.packing.add_store.Goals as goal
 
 pub returns : goal.returns

@@ -1,6 +1,6 @@
 use Rattle.std.proofs.Common.{◌≡◌, ◌-◌, ◌<◌, ◌++◌, ap, ◌∙◌, arith}
 use Rattle.answers.specs.Packing.{packed, memory_numbers, processes_numbers, state_numbers}
-use Rattle.answers.proofs.Written.{front_written, processes_more}
+use Rattle.answers.proofs.PackedSoFar.{front_packed, processes_more}
 use Rattle.answers.proofs.packing.bytes_of.Goals as goal
 
 pub loop-p-init : goal.loop-p-init
@@ -11,7 +11,7 @@ loop-p-init g c =
     let memory = memory_numbers x.memory in
     let rest = processes_numbers b x.running x.stopped c.args.answers.now (b.processes - 0) 0 in
     let all : b.processes - 0 ≡ b.processes = omega arith in
-    front_written memory rest old c.add_store.new.bytes.items (packed (state_numbers b x.memory x.running x.stopped c.args.answers.now))
+    front_packed memory rest old c.add_store.new.bytes.items (packed (state_numbers b x.memory x.running x.stopped c.args.answers.now))
     (ap (λ l. l ++ packed (memory ++ rest)) c.in_ok-bytes.ensures.items ∙ ap (λ k. packed (memory ++ processes_numbers b x.running x.stopped c.args.answers.now k 0)) all)
     (c.in_ok-add_store.ensures ∙ ap (λ m. old ++ packed (memory_numbers m)) c.store.ensures)
 

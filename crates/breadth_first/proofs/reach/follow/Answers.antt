@@ -6,7 +6,7 @@ use Rattle.std.specs.Prelude.{IfSome}
 use Rattle.breadth_first.specs.declared.mark.Mark.{Mark}
 use Rattle.breadth_first.specs.declared.mark.Unreached.TheVariants.{TooMany}
 use Rattle.breadth_first.specs.Paths.{depth_at, mark_of_start}
-use Rattle.breadth_first.proofs.Expanded.{depth_low}
+use Rattle.breadth_first.proofs.Reachable.{depth_low}
 use Rattle.breadth_first.proofs.Searched.{search_after, too_many_discovered}
 use Rattle.breadth_first.proofs.reach.follow.Goals as goal
 

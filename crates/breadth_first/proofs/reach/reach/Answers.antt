@@ -1,7 +1,7 @@
 use Rattle.std.proofs.Common.{◌≡◌, ◌∷◌, [], Err, length, ap, sym, ◌∙◌, arith}
 use Rattle.std.proofs.lemmas.Result.{err_from_is_err_and}
 use Rattle.breadth_first.specs.declared.mark.Unreached.TheVariants.{TooMany}
-use Rattle.breadth_first.proofs.Expanded.{none_allowed}
+use Rattle.breadth_first.proofs.Started.{start_is_too_many}
 use Rattle.breadth_first.proofs.Searched.{search_begun, not_too_many_keys}
 use Rattle.breadth_first.proofs.reach.reach.Goals as goal
 
@@ -13,7 +13,7 @@ returns-in_err-discover-clause-too_many g c e =
     let why : given.0 ≡ TooMany = cc in
     let t = c.in_err-discover.ensures.too_many (ap Err (sym given.2 ∙ why)) in
     let none : length c.begin-search.result.reached.keys.keys ≡ 0 = ap length c.begin-search.ensures.keys in
-    none_allowed shape.labels shape.move g.G.Node.PartialEq.eq g.met.G.Node.Eq.laws (g.met.G.Graph.alike c.args.graph.now) shape.origin c.args.most (omega (arith, t.1, none))
+    start_is_too_many shape.labels shape.move g.G.Node.PartialEq.eq g.met.G.Node.Eq.laws (g.met.G.Graph.alike c.args.graph.now) shape.origin c.args.most (omega (arith, t.1, none))
 
 pub expand_all-requires-clause-searching : goal.expand_all-requires-clause-searching
 expand_all-requires-clause-searching g c = record {

@@ -1,8 +1,8 @@
 use Rattle.std.proofs.Common.{◌≡◌, ◌∙◌, ◌+◌, ◌∷◌, ◌++◌, true, map, drop, ap, sym, subst, append-nil}
 use Rattle.frames.specs.Configuration.{fits_step, replayed, history}
 use Rattle.checkpoints.specs.StoredEvents.{stored_events}
-use Rattle.checkpoints.specs.Reports.{reported_events}
-use Rattle.checkpoints.proofs.Replays.{still_under_way, left_at, none_left, step_fits, still_all_steps}
+use Rattle.checkpoints.specs.MarkedSteps.{reported_events}
+use Rattle.checkpoints.proofs.Replays.{still_under_way, left_at, none_left, first_fits, still_all_steps}
 use Rattle.checkpoints.proofs.MarkedEvents.{reported_more}
 use Rattle.checkpoints.proofs.replaying.replay_from.Goals as goal
 
@@ -15,7 +15,7 @@ step-reported-requires g c =
     let step = c.step-step.result in
     let rest = map step_in (drop (at.item-index + 1) items) in
     let first = left_at step_in items at.item-index c.item-item.result c.loop-item-test.true c.item-item.is ∙ ap (λ s. s ∷ rest) (sym c.step-step.ensures) in
-    let fits = step_fits step (map step_in (drop at.item-index items)) rest first (is c.args.entry.register) at.invariant.under_way.fit in
+    let fits = first_fits step (map step_in (drop at.item-index items)) rest first (is c.args.entry.register) at.invariant.under_way.fit in
     subst (λ r. fits_step (is r) step ≡ true) (sym at.invariant.under_way.register) fits
 
 pub loop-item-preserved : goal.loop-item-preserved

@@ -1,6 +1,6 @@
 use Rattle.std.proofs.Common.{◌≡◌, ◌++◌, map, length, drop, vec_len, vec_capacity}
 use Rattle.checkpoints.specs.StoredEvents.{stored_events}
-use Rattle.checkpoints.specs.Reports.{reported_events}
+use Rattle.checkpoints.specs.MarkedSteps.{reported_events}
 use Rattle.checkpoints.proofs.MarkedEvents.{AreReadFirst}
 use Rattle.checkpoints.proofs.Replays.{IsUnderWay}
 use Rattle.checkpoints.proofs.replaying.replay_from.Given as goal

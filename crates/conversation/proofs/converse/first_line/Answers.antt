@@ -2,9 +2,10 @@ use Rattle.std.proofs.Common.{◌≡◌, ℕ, ◌+◌, ◌-◌, ◌<◌, ◌≤�
 use Rattle.std.proofs.lemmas.Bool.{eqb-true, false_from_ne_true}
 use Rattle.std.proofs.lemmas.List.{get_or-take, get_or_default, length-take-le, take-append-drop, take_rest, drop_more}
 use Rattle.conversation.specs.Scripts.{is_line_end}
-use Rattle.conversation.specs.Answering.{HasNoEnd}
+use Rattle.conversation.specs.Pieces.{HasNoEnd}
 use Rattle.conversation.proofs.converse.first_line.Goals as goal
 
+-- if no byte before `end` is a line end, the bytes before `end` have none
 none_in_front : (text : List ℕ) (end : ℕ) → end ≤ length text
     → ((k : ℕ) → 0 ≤ k → k < end → (get_or text k 0 == 10) ≡ true → ⊥) → HasNoEnd (take end text)
 none_in_front text end within none k d less =
@@ -14,11 +15,13 @@ none_in_front text end within none k d less =
     ap is_line_end (get_or-take end text k d here ∙ get_or_default text k d 0 inside)
     ∙ false_from_ne_true (get_or text k 0 == 10) (none k (omega arith) here)
 
+-- if no byte of a text is a line end, the text has none
 none_at_all : (text : List ℕ) → ((k : ℕ) → 0 ≤ k → k < length text → (get_or text k 0 == 10) ≡ true → ⊥) → HasNoEnd text
 none_at_all text none k d less =
     ap is_line_end (get_or_default text k d 0 less)
     ∙ false_from_ne_true (get_or text k 0 == 10) (none k (omega arith) less)
 
+-- the slice `[1..]` of the bytes from a line end on has just the bytes after this end
 rest_is_taken : (back rest : List ℕ) → back ≡ 10 ∷ rest → back ≡ 10 ∷ take (length back - 1) (drop 1 back)
 rest_is_taken back rest e = e ∙ ap (λ l. 10 ∷ l) (sym (take_rest back 1 ∙ ap (drop 1) e))
 

@@ -4,8 +4,8 @@ use Rattle.schedule_trie.specs.Trie.{has, keys_in}
 use Rattle.schedule_trie.specs.Climbs.{keys_to, HasClimbedTo}
 use Rattle.schedule_trie.proofs.climbs.Climbs.{IsStepUp, step_up}
 use Rattle.schedule_trie.proofs.lists.NoRepeats.{has-left}
-use Rattle.cutoff.proofs.Climbs.{path_once}
-use Rattle.cutoff.proofs.Checks.{none_checked, more_checked, up_to_itself}
+use Rattle.cutoff.proofs.Checks.{none_checked, more_checked}
+use Rattle.cutoff.proofs.Keys.{path_once, up_to_itself}
 use Rattle.cutoff.proofs.check.check_above.Goals as goal
 
 pub loop-init : goal.loop-init

@@ -12,6 +12,7 @@ steps_on slots i d taken new all h was added =
     ap (λ l. l ++ map step_of (drop (i + 1) slots)) added ∙ append_assoc taken (step_of (get_or slots i d) ∷ []) (map step_of (drop (i + 1) slots))
     ∙ ap (λ l. taken ++ l) (sym (at_drop_more (map step_of) slots i d h)) ∙ was
 
+-- after the last cell, the steps taken are all steps
 steps_done : (slots : List Slot) (i : ℕ) (taken all : List Step) → length slots ≤ i → taken ++ map step_of (drop i slots) ≡ all → taken ≡ all
 steps_done slots i taken all past was = sym (append-nil taken) ∙ ap (λ l. taken ++ l) (sym (at_drop_all (map step_of) slots i past)) ∙ was
 

@@ -27,7 +27,7 @@ returns-clause-seen g c =
     let jobs = c.args.planning.now.jobs.items in
     let lacks = subst (IsSight E is c.args.base.now.trie.now c.args.base.now.start.now jobs c.args.key) c.requires.new (c.requires.seen c.args.key) in
     seen_below E g.met.R.PartialEq.laws is g.met.R.Register.alike c.args.base.now.trie.now c.args.base.now.start.now c.requires.cut c.args.key c.above-above.result (λ i front back e. c.above-above.ensures.each i front back e)
-    jobs c.in_ok-fits.fits c.look_below.new.jobs.items c.in_ok-fits.ensures lacks c.args.planning.now.seen.items c.record_fit-2.new.seen.items c.requires.seen c.in_ok-record_fit-2.ensures.here c.in_ok-record_fit-2.ensures.others
+    jobs c.in_ok-fits.fits c.fits_or_adds_job.new.jobs.items c.in_ok-fits.ensures lacks c.args.planning.now.seen.items c.record_fit-2.new.seen.items c.requires.seen c.in_ok-record_fit-2.ensures.here c.in_ok-record_fit-2.ensures.others
     (subst (λ fits. (old : List (Planned _ _)) × HasDescendedAbove E is c.args.base.now.trie.now c.args.base.now.start.now old jobs c.args.key fits) c.if-not-above_fits.false c.requires.arrives)
 
 pub returns-clause-arrives : goal.returns-clause-arrives
@@ -37,4 +37,4 @@ returns-clause-arrives g c = λ old comes.
     let jobs = c.args.planning.now.jobs.items in
     let lacks = subst (IsSight E is c.args.base.now.trie.now c.args.base.now.start.now jobs c.args.key) c.requires.new (c.requires.seen c.args.key) in
     visit_below E g.met.R.PartialEq.laws is g.met.R.Register.alike c.args.base.now.trie.now c.args.base.now.start.now c.requires.cut c.args.key c.above-above.result (λ i front back e. c.above-above.ensures.each i front back e)
-    jobs c.in_ok-fits.fits c.look_below.new.jobs.items c.in_ok-fits.ensures lacks old (subst (HasDescendedAbove E is c.args.base.now.trie.now c.args.base.now.start.now old jobs c.args.key) c.if-not-above_fits.false comes)
+    jobs c.in_ok-fits.fits c.fits_or_adds_job.new.jobs.items c.in_ok-fits.ensures lacks old (subst (HasDescendedAbove E is c.args.base.now.trie.now c.args.base.now.start.now old jobs c.args.key) c.if-not-above_fits.false comes)

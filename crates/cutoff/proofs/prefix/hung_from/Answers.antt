@@ -4,8 +4,8 @@ use Rattle.schedule_trie.specs.Trie.{has, keys_in, note_of, segment_at}
 use Rattle.schedule_trie.specs.Climbs.{HasClimbedTo}
 use Rattle.schedule_trie.proofs.climbs.Climbs.{step_up}
 use Rattle.cutoff.specs.Prefixes.{IsHung, IsTop}
-use Rattle.cutoff.proofs.Climbs.{path_once}
 use Rattle.cutoff.proofs.HungRuns.{hung_here, hung_more}
+use Rattle.cutoff.proofs.Keys.{path_once}
 use Rattle.cutoff.proofs.prefix.hung_from.Goals as goal
 use Rattle.cutoff.proofs.prefix.hung_from.Goals.{else-loop-test, then-loop-test+then-may_stop, then-loop-test+else-may_stop+in_default-at, then-loop-test+else-may_stop+in-Some-at+in_default-note, then-loop-test+else-may_stop+in-Some-at+in-Some-note+then-not-is_linked_from}
 

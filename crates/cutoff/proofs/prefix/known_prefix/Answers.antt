@@ -13,12 +13,13 @@ use Rattle.schedule_trie.proofs.climbs.Climbs.{step_up}
 use Rattle.cutoff.specs.declared.known.Known.{Known}
 use Rattle.cutoff.specs.Fitting.{StoredRun}
 use Rattle.cutoff.specs.Known.{IsKnownDownTo, AreKnown}
-use Rattle.cutoff.specs.Prefixes.{RunsDown, IsMarked, IsTop}
-use Rattle.cutoff.proofs.Climbs.{keys_to_few, path_once, keys_up_to_some}
-use Rattle.cutoff.proofs.Fits.{stored_at}
+use Rattle.cutoff.specs.Prefixes.{RunsDown, RunsToOnAll, IsTop}
+use Rattle.cutoff.proofs.Climbs.{keys_to_few, keys_up_to_some}
+use Rattle.cutoff.proofs.Fits.{stored-from_stored_in}
 use Rattle.cutoff.proofs.HungRuns.{hung_here}
 use Rattle.cutoff.proofs.LeftToSettle.{known_bottom}
 use Rattle.cutoff.proofs.Prefixes.{runs_to_next, none_known}
+use Rattle.cutoff.proofs.Keys.{path_once}
 use Rattle.cutoff.proofs.prefix.known_prefix.Given.{Over}
 use Rattle.cutoff.proofs.prefix.known_prefix.Goals as goal
 use Rattle.cutoff.proofs.prefix.known_prefix.Goals.{then-is_known_down_to-via-then-is_known_down_to, then-is_known_down_to-via-else-is_known_down_to+then-begins_at}
@@ -37,17 +38,17 @@ loop-init g c = record {
 -- runs fit down to a segment that is the first of its branches if its run begins at the start
 first_down : {R P : Type 0} (E : R → R → Bool) (per : IsPartialEquivalence E) (is : R → Behaviour P) (alike : (x y : R) → E x y ≡ true → is x ≡ is y) (trie : TrieOf (StoredRun R P)) (start : Configuration R P) (known : Known)
     → AreKnown E is trie start known → (top : ℕ) (o : Option (StoredRun R P)) (above : Option ℕ) → IsTop trie top o above → above ≡ None
-    → MatchOption o ⊥ (λ s. SameConfiguration E s.run.entry start × IsRun (is s.run.entry.register) s.run) → IsMarked E is trie start (Some top)
+    → MatchOption o ⊥ (λ s. SameConfiguration E s.run.entry start × IsRun (is s.run.entry.register) s.run) → RunsToOnAll E is trie start (Some top)
 first_down E per is alike trie start known all_known top None above t none m = absurd m
 first_down E per is alike trie start known all_known top (Some s) above t none m = λ i h.
     let keys = keys_in trie.branches i in
     let linked = all_known.linked.1 in
     let step = step_up keys top above (path_once trie all_known.cut i) h (λ front back e. t.each i front back e) in
-    runs_to_next E per is alike trie top s (sym t.noted) m.1 (stored_at E start.register linked.exits trie top s (linked.each top) (sym t.noted)).covers start keys above step
+    runs_to_next E per is alike trie top s (sym t.noted) m.1 (stored-from_stored_in E start.register linked.exits trie top s (linked.each top) (sym t.noted)).covers start keys above step
     (subst (λ o. RunsDown E is trie (is start.register) start (keys_to keys o) s.run.entry) (sym none) m.0)
 
 -- runs fit down to the segment at which the last climb ended
-down_to_top : (g : Over) (c : goal.Joined-then-is_known_down_to g) → IsMarked g.R.PartialEq.eq g.R.Behaves.behaviour c.args.trie.now c.args.start.now (Some c.loop.top.key)
+down_to_top : (g : Over) (c : goal.Joined-then-is_known_down_to g) → RunsToOnAll g.R.PartialEq.eq g.R.Behaves.behaviour c.args.trie.now c.args.start.now (Some c.loop.top.key)
 down_to_top g c =
     let top = c.loop.top.key in
     let E = g.R.PartialEq.eq in
@@ -63,7 +64,7 @@ down_to_top g c =
 
 pub returns-then-is_known_down_to-clause-known : goal.returns-then-is_known_down_to-clause-known
 returns-then-is_known_down_to-clause-known g c =
-    known_bottom g.R.PartialEq.eq g.met.R.PartialEq.laws g.R.Behaves.behaviour g.met.R.Register.alike c.args.trie.now c.args.start.now c.args.first.key c.loop.top.key c.loop.front c.loop.invariant.there c.loop.invariant.hung
+    known_bottom g.R.PartialEq.eq g.met.R.PartialEq.laws g.R.Behaves.behaviour g.met.R.Register.alike c.args.trie.now c.args.start.now c.args.first.key c.loop.top.key c.loop.bottom c.loop.invariant.there c.loop.invariant.hung
     (down_to_top g c)
 
 -- the next segment, right above the one at which the climb ended, is on each branch with `first`
@@ -110,9 +111,9 @@ unreachable-requires g c =
     let i = c.requires.there.0 in
     let h = c.requires.there.1 in
     let keys = keys_in c.args.trie.now.branches i in
-    let all = ap length (c.loop.invariant.path i h) ∙ length-append (keys_up_to c.loop.front keys) (reverse c.loop.keys.items) in
+    let all = ap length (c.loop.invariant.path i h) ∙ length-append (keys_up_to c.loop.bottom keys) (reverse c.loop.keys.items) in
     let passed = length-reverse c.loop.keys.items in
-    let some = keys_up_to_some keys c.loop.front (c.loop.invariant.there i h) in
+    let some = keys_up_to_some keys c.loop.bottom (c.loop.invariant.there i h) in
     let few = keys_to_few keys (Some c.args.first.key) h in
     let made = c.made-end.ensures.few i in
     let short = c.loop.invariant.short in

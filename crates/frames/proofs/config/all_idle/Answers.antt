@@ -1,6 +1,6 @@
 use Rattle.std.proofs.Common.{◌≡◌, ◌+◌, ◌∷◌, [], ◌++◌, replicate, ap, ◌∙◌, arith}
 use Rattle.std.proofs.lemmas.List.{replicate_more}
-use Rattle.frames.specs.Parked.{idle}
+use Rattle.frames.specs.StoredConfiguration.{idle}
 use Rattle.frames.proofs.config.all_idle.Goals as goal
 
 pub loop-preserved : goal.loop-preserved

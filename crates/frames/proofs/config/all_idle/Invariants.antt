@@ -1,5 +1,5 @@
 use Rattle.std.proofs.Common.{◌≡◌, replicate, vec_len, vec_capacity}
-use Rattle.frames.specs.Parked.{idle}
+use Rattle.frames.specs.StoredConfiguration.{idle}
 use Rattle.frames.proofs.config.all_idle.Given as goal
 
 -- the processes before this one are idle, and memory for the rest is reserved

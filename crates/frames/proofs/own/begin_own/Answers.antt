@@ -4,9 +4,9 @@ use Rattle.safe_bit.specs.laws.Parts.{part-whole, with_part-whole}
 use Rattle.frames.specs.Flat.{outcome_of, left_frames}
 use Rattle.frames.proofs.own.begin_own.Goals as goal
 
-no_frames_left : {A : Type 0} (left front own same : List A)
+own_frames_alone : {A : Type 0} (left front own same : List A)
     → left ≡ front ++ own → front ≡ [] → own ≡ same → left ≡ same
-no_frames_left left front own same e none is = e ∙ ap (λ s. s ++ own) none ∙ is
+own_frames_alone left front own same e none is = e ∙ ap (λ s. s ++ own) none ∙ is
 
 pub begin_on-requires-clause-holds : goal.begin_on-requires-clause-holds
 begin_on-requires-clause-holds g c =
@@ -27,7 +27,7 @@ returns g c =
     let lands = c.begin_on.ensures in
     record {
       answer = lands.answer ∙ ap (λ q. outcome_of (b.begins who op q).next) whole;
-      stack = no_frames_left _ _ _ _ lands.stack c.requires.idle
+      stack = own_frames_alone _ _ _ _ lands.stack c.requires.idle
           (ap (λ q. left_frames b.frames (b.begins who op q).next) whole);
       memory = lands.memory ∙ ap (λ q. with_part origin (b.begins who op q).memory m) whole
           ∙ with_part-whole b.size (b.begins who op m).memory m (lawful.size_holds _ inner.holds) size;

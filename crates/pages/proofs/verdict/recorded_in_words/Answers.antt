@@ -1,4 +1,4 @@
-use Rattle.pages.proofs.VerdictHistories.{records_well_formed, records_histories, records_judged}
+use Rattle.pages.proofs.RecordedHistories.{records_well_formed, records_one_writer, records_judged}
 use Rattle.pages.proofs.verdict.recorded_in_words.Goals as goal
 
 pub returns-clause-well_formed : goal.returns-clause-well_formed
@@ -9,7 +9,7 @@ returns-clause-well_formed g c =
 pub returns-clause-histories : goal.returns-clause-histories
 returns-clause-histories g c =
     let r = c.args.register.now in
-    records_histories (g.R.Behaves.behaviour r) (g.R.Register.Holds r) (g.R.Register.Reaches r) (g.met.R.Register.lawful r)
+    records_one_writer (g.R.Behaves.behaviour r) (g.R.Register.Holds r) (g.R.Register.Reaches r) (g.met.R.Register.lawful r)
 
 pub returns-clause-judged : goal.returns-clause-judged
 returns-clause-judged g c =

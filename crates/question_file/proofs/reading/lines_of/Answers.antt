@@ -1,6 +1,6 @@
-use Rattle.std.proofs.Common.{rules, ◌≡◌, ◌∙◌, ◌<◌, ◌^◌, length, ap}
+use Rattle.std.proofs.Common.{rules, ◌≡◌, ◌==◌, ◌∙◌, ◌<◌, ◌^◌, length, ap}
 use Rattle.words.specs.Words.{lines, is_end}
-use Rattle.question_file.proofs.ReadLines.{few_lines, lines_not_at_end}
+use Rattle.words.proofs.Splits.{few_lines, split_nonempty}
 use Rattle.question_file.proofs.reading.lines_of.Goals as goal
 
 pub returns-clause-few : goal.returns-clause-few
@@ -12,4 +12,4 @@ returns-clause-few c =
 pub returns-clause-some : goal.returns-clause-some
 returns-clause-some c =
     let all : c.new.result ≡ lines c.args.bytes.now = search rules in
-    ap is_end all ∙ lines_not_at_end c.args.bytes.now
+    ap is_end all ∙ split_nonempty (λ b. b == 10) c.args.bytes.now

@@ -1,9 +1,9 @@
 use Rattle.std.proofs.Common.{rules, ◌≡◌, ◌∙◌, List, ℕ, false, sym, ap}
 use Rattle.std.specs.Option.{option_map}
 use Rattle.words.specs.Words.{after_next, is_end}
-use Rattle.question_file.specs.Said.{as_asked}
+use Rattle.question_file.specs.Parsed.{as_asked}
 use Rattle.question_file.specs.Reading.{with_line}
-use Rattle.question_file.proofs.ReadLines.{line_faulty}
+use Rattle.question_file.proofs.LineLoop.{line_faulty}
 use Rattle.question_file.proofs.reading.parse_question.Goals as goal
 
 pub returns-in-Err-clause-fault : goal.returns-in-Err-clause-fault

@@ -1,7 +1,7 @@
 use Rattle.std.proofs.Common.{◌≡◌, ◌+◌, ◌≤◌, ◌^◌, false, None, length}
 use Rattle.std.specs.Option.{option_map}
 use Rattle.words.specs.Words.{lines, is_end}
-use Rattle.question_file.specs.Said.{as_asked}
+use Rattle.question_file.specs.Parsed.{as_asked}
 use Rattle.question_file.specs.Reading.{read_from}
 use Rattle.question_file.proofs.reading.parse_question.Given as goal
 

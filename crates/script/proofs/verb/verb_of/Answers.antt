@@ -1,3 +1,4 @@
+-- Words of five bytes or more. Shorter ones need no answer here.
 use Rattle.std.proofs.Common.{rules, arith}
 use Rattle.std.specs.Prelude.{codes}
 use Rattle.script.proofs.Verbs.{verb_from_reads}

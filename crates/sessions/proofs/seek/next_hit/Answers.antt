@@ -10,8 +10,9 @@ use Rattle.sessions.specs.Walks.{ReportsParts}
 use Rattle.sessions.proofs.NextHits.{next_is_hit}
 use Rattle.sessions.proofs.seek.next_hit.Goals as goal
 
-found : goal.returns-clause-hit
-found g c =
+-- the place found is the next hit, from which both clauses follow
+place_is_next : goal.returns-clause-hit
+place_is_next g c =
     let is = g.R.Behaves.behaviour in
     let old = c.args.chart.now in
     let b = is old.start.register in
@@ -32,7 +33,7 @@ found g c =
     c.along_runs.ensures
 
 pub returns-clause-hit : goal.returns-clause-hit
-returns-clause-hit g c = found g c
+returns-clause-hit g c = place_is_next g c
 
 pub returns-clause-met : goal.returns-clause-met
 returns-clause-met g c =
@@ -43,7 +44,7 @@ returns-clause-met g c =
     (λ place. place ≡ next_place c.args.search.now.way c.args.search.now.from (places_with test (length steps + 1)))
     _
     (λ place h. next_is_hit test c.args.search.now.from c.args.search.now.way (length steps + 1) place h)
-    (found g c)
+    (place_is_next g c)
 
 pub along_runs-requires : goal.along_runs-requires
 along_runs-requires g c = record { room = subst (λ rs. FitsU32 (counted rs)) (sym c.as_slice.ensures) c.in_ok-runs.ensures.room }

@@ -1,3 +1,4 @@
+-- A `Snapshot` can be sent to another thread, whatever it was made of: it owns nothing.
 use denote.RattleType.{RattleType}
 use denote.Param.Send.{IsSend}
 use Rattle.snapshots.specs.contracts.Snapshot.{the_row}

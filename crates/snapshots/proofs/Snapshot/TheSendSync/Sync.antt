@@ -1,3 +1,4 @@
+-- A `Snapshot` can be shared by threads, whatever it was made of: it has no bytes to race for.
 use denote.RattleType.{RattleType}
 use denote.Param.Send.{IsSend, IsSync, part_keyless}
 use Rattle.snapshots.specs.contracts.Snapshot.{the_row}

@@ -1,7 +1,7 @@
 use Rattle.tower_file.specs.Parsed.{as_bench}
 use Rattle.tower_file.specs.BenchSpelling.{SpellsFront}
 use Rattle.tower_file.proofs.Formats.{parses, plain_memory}
-use Rattle.tower_file.proofs.BenchAnswers.{bench_format}
+use Rattle.tower_file.proofs.BenchFormat.{bench_format}
 use Rattle.tower_file.proofs.bench_reading.bench_of.Goals as goal
 
 pub returns-clause-parsed : goal.returns-clause-parsed

@@ -2,8 +2,8 @@ use Rattle.std.proofs.Common.{rules, ◌≡◌, true, Ok, None}
 use Rattle.words.specs.Words.{lines, after_next}
 use Rattle.tower_file.specs.BenchSpelling.{bench_header, SpellsFront}
 use Rattle.tower_file.specs.Reading.{first_foreign, has_header, tower_of}
-use Rattle.tower_file.proofs.StepLoop.{memory_only, known_fault}
-use Rattle.tower_file.proofs.BenchAnswers.{bench_lawful, spells_front}
+use Rattle.tower_file.proofs.PassedFaults.{memory_only, known_fault}
+use Rattle.tower_file.proofs.BenchFormat.{read_bench_is_lawful, spells_front}
 use Rattle.tower_file.proofs.bench_reading.bench_of_lines.Goals as goal
 
 pub returns-in_err-tower-clause-memory : goal.returns-in_err-tower-clause-memory
@@ -20,4 +20,4 @@ returns-in_err-limbs-clause-memory c =
 
 pub of_lawful-requires : goal.of_lawful-requires
 of_lawful-requires c =
-    record { lawful = bench_lawful c.in_ok-tower.tower 3 c.tower_of.new.lines c.in_ok-limbs.limbs.items c.in_ok-tower.ensures.lawful c.in_ok-limbs.ensures.read }
+    record { lawful = read_bench_is_lawful c.in_ok-tower.tower 3 c.tower_of.new.lines c.in_ok-limbs.limbs.items c.in_ok-tower.ensures.lawful c.in_ok-limbs.ensures.read }

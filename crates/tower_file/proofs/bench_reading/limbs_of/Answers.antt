@@ -5,7 +5,8 @@ use Rattle.words.specs.Steps.{step_of_words}
 use Rattle.tower_file.specs.declared.fault.FileFault.{FileFault}
 use Rattle.tower_file.specs.Faults.{Gives}
 use Rattle.tower_file.specs.BenchReading.{then_line, limbs_at_end, limbs_of}
-use Rattle.tower_file.proofs.BenchAnswers.{at_end, fewer_after_line, so_far_after_line, fails, memory_on_line, is_then_step}
+use Rattle.tower_file.proofs.LimbLoop.{at_end, so_far_after_line, fault_on_line, memory_on_line, then_line_of_step}
+use Rattle.tower_file.proofs.LinesLeft.{fewer_after_line}
 use Rattle.tower_file.proofs.bench_reading.limbs_of.Goals as goal
 
 pub returns-then-is_end-clause-read : goal.returns-then-is_end-clause-read
@@ -23,7 +24,7 @@ pub returns-in_err-add_line-clause-read : goal.returns-in_err-add_line-clause-re
 returns-in_err-add_line-clause-read c =
     let kept : c.next_step.new.self ≡ c.reading.lines = search rules in
     let whole : is_end (after_next c.reading.lines) ≡ false = search rules in
-    fails c.reading.invariant.so_far whole c.from_residual-in_err-add_line.result _ _ c.from_residual-in_err-add_line.ensures.0 c.from_residual-in_err-add_line.ensures.1 (λ x h. h) (λ limbs. limbs.items) _
+    fault_on_line c.reading.invariant.so_far whole c.from_residual-in_err-add_line.result _ _ c.from_residual-in_err-add_line.ensures.0 c.from_residual-in_err-add_line.ensures.1 (λ x h. h) (λ limbs. limbs.items) _
     (ap (then_line c.args.tower.now c.reading.number c.reading.limbs) (sym (c.next-line.ensures.part ∙ ap next kept))) c.in_err-add_line.ensures.read
 
 pub returns-in_err-add_line-clause-memory : goal.returns-in_err-add_line-clause-memory
@@ -49,8 +50,8 @@ returns-in_err-add_step-clause-read c =
     let line = next c.reading.lines in
     let whole : is_end (after_next c.reading.lines) ≡ false = search rules in
     let spelled : step_of_words (words line) ≡ Some c.in-Some.step = search rules in
-    fails c.reading.invariant.so_far whole c.from_residual.result _ _ c.from_residual.ensures.0 c.from_residual.ensures.1 (λ x h. h) (λ limbs. limbs.items) _
-    (is_then_step c.args.tower.now c.reading.number c.reading.limbs line c.in-Some.step spelled) (c.in_err-add_step.ensures.read line spelled)
+    fault_on_line c.reading.invariant.so_far whole c.from_residual.result _ _ c.from_residual.ensures.0 c.from_residual.ensures.1 (λ x h. h) (λ limbs. limbs.items) _
+    (then_line_of_step c.args.tower.now c.reading.number c.reading.limbs line c.in-Some.step spelled) (c.in_err-add_step.ensures.read line spelled)
 
 pub returns-in_err-add_step-clause-memory : goal.returns-in_err-add_step-clause-memory
 returns-in_err-add_step-clause-memory c =
@@ -58,7 +59,7 @@ returns-in_err-add_step-clause-memory c =
     let whole : is_end (after_next c.reading.lines) ≡ false = search rules in
     let spelled : step_of_words (words line) ≡ Some c.in-Some.step = search rules in
     memory_on_line c.reading.invariant.so_far whole c.from_residual.result _ _ c.from_residual.ensures.0 c.from_residual.ensures.1 (λ x h. h) _
-    (is_then_step c.args.tower.now c.reading.number c.reading.limbs line c.in-Some.step spelled) (λ k. c.in_err-add_step.ensures.memory k line spelled)
+    (then_line_of_step c.args.tower.now c.reading.number c.reading.limbs line c.in-Some.step spelled) (λ k. c.in_err-add_step.ensures.memory k line spelled)
 
 pub reading-preserved-in-Some : goal.reading-preserved-in-Some
 reading-preserved-in-Some c =
@@ -66,7 +67,7 @@ reading-preserved-in-Some c =
     let whole : is_end (after_next c.reading.lines) ≡ false = search rules in
     let spelled : step_of_words (words line) ≡ Some c.in-Some.step = search rules in
     let left : c.next_step.new.self ≡ after_next c.reading.lines = search rules in
-    let said = is_then_step c.args.tower.now c.reading.number c.reading.limbs line c.in-Some.step spelled ∙ c.in_ok-add_step.ensures.read line spelled in
+    let said = then_line_of_step c.args.tower.now c.reading.number c.reading.limbs line c.in-Some.step spelled ∙ c.in_ok-add_step.ensures.read line spelled in
     record {
       few = omega (arith, c.reading.invariant.few, fewer_after_line c.reading.lines whole, ap length left);
       so_far = so_far_after_line c.reading.invariant.so_far whole c.add_step.new.limbs c.next_step.new.self said left;

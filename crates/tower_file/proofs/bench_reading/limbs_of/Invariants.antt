@@ -1,5 +1,5 @@
 use Rattle.std.proofs.Common.{◌+◌, ◌≤◌, ◌^◌, length}
-use Rattle.tower_file.proofs.BenchAnswers.{IsSoFar}
+use Rattle.tower_file.proofs.LimbLoop.{IsSoFar}
 use Rattle.tower_file.proofs.bench_reading.limbs_of.Given as goal
 
 abbrev pub invariant-reading : goal.invariant-reading

@@ -1,5 +1,5 @@
 use Rattle.tower_file.proofs.Formats.{reading_is, one_file}
-use Rattle.tower_file.proofs.BenchAnswers.{bench_format}
+use Rattle.tower_file.proofs.BenchFormat.{bench_format}
 use Rattle.tower_file.proofs.laws.one_bench_spelling.Goals as goal
 
 pub returns-clause-file : goal.returns-clause-file

@@ -1,5 +1,5 @@
 use Rattle.tower_file.proofs.Formats.{reading_is, one_file}
-use Rattle.tower_file.proofs.CallResults.{tower_format}
+use Rattle.tower_file.proofs.TowerFormat.{tower_format}
 use Rattle.tower_file.proofs.laws.one_spelling.Goals as goal
 
 pub returns-clause-file : goal.returns-clause-file

@@ -1,7 +1,7 @@
 use Rattle.tower_file.specs.Parsed.{as_file}
 use Rattle.tower_file.specs.Spelling.{SpellsSteps}
 use Rattle.tower_file.proofs.Formats.{parses, plain_memory}
-use Rattle.tower_file.proofs.CallResults.{tower_format}
+use Rattle.tower_file.proofs.TowerFormat.{tower_format}
 use Rattle.tower_file.proofs.reading.file_of.Goals as goal
 
 pub returns-clause-parsed : goal.returns-clause-parsed

@@ -7,8 +7,8 @@ use Rattle.tower_file.specs.Versions.{may_have}
 use Rattle.tower_file.specs.Reading.{first_foreign, version_of, tower_of}
 use Rattle.tower_file.specs.Spelling.{SpellsSteps}
 use Rattle.tower_file.proofs.Sound.{steps_are}
-use Rattle.tower_file.proofs.CallResults.{spells_steps}
-use Rattle.tower_file.proofs.StepLoop.{memory_only, known_fault}
+use Rattle.tower_file.proofs.TowerFormat.{spells_steps}
+use Rattle.tower_file.proofs.PassedFaults.{memory_only, known_fault}
 use Rattle.tower_file.proofs.reading.file_of_lines.Goals as goal
 
 pub returns-in_err-tower-clause-memory : goal.returns-in_err-tower-clause-memory

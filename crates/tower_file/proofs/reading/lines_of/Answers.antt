@@ -1,6 +1,6 @@
 use Rattle.std.proofs.Common.{rules, ◌≡◌, ◌<◌, ◌^◌, length}
 use Rattle.words.specs.Words.{lines}
-use Rattle.tower_file.proofs.StepLoop.{few_lines}
+use Rattle.words.proofs.Splits.{few_lines}
 use Rattle.tower_file.proofs.reading.lines_of.Goals as goal
 
 pub returns-clause-few : goal.returns-clause-few

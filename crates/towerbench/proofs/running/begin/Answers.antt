@@ -11,7 +11,7 @@ returns-in-Err-serve_at g c =
     let is = g.B.Behaves.behaviour in
     let opened = c.in-Ok.ensures in
     let can : CanOpen is c.args.opening = record { value = c.requires.value; limits = c.requires.limits; builds = c.requires.builds } in
-    inr (inl (c.in-Err-serve_at.fault, c.of_stream.ensures, ended_by_fault_at is c.args.opening can (world_at is c.in-Ok.seat) opened.opens _ _ opened.room c.in-Err-serve_at.fault (c.in-Err-serve_at.ensures.fault opened.alone)))
+    inr (inl (c.in-Err-serve_at.fault, c.fault_of_stream.ensures, ended_by_fault_at is c.args.opening can (world_at is c.in-Ok.seat) opened.opens _ _ opened.room c.in-Err-serve_at.fault (c.in-Err-serve_at.ensures.fault opened.alone)))
 
 pub reported_bytes-requires-clause-ground : goal.reported_bytes-requires-clause-ground
 reported_bytes-requires-clause-ground g c =

@@ -1,8 +1,28 @@
-use Rattle.std.proofs.Common.{refl, sym, ◌∙◌}
+use Rattle.std.proofs.Common.{◌≡◌, ℕ, List, refl, sym, ap, ◌∙◌}
+use Rattle.frames.specs.declared.types.Step.{Step}
+use Rattle.frames.specs.Behaviour.{Behaviour}
+use Rattle.frames.specs.Configuration.{fits_step}
+use Rattle.branch_terms.specs.declared.limb.Limb.{Limb}
+use Rattle.branch_terms.specs.declared.limits.Limits.{Limits}
+use Rattle.sessions.specs.World.{opening_of_limbs}
 use Rattle.towers.specs.Towers.{copies_tower, regular_tower, unary_tower, stamped_tower, matrix_tower}
+use Rattle.tower_file.specs.declared.tower.TowerSpec.{TowerSpec}
 use Rattle.tower_file.specs.declared.tower.TowerSpec.TheVariants.{Copies, Regular, Unary, Stamped, Matrix}
-use Rattle.towerbench.proofs.RunEndings.{builds_as}
+use Rattle.tower_file.specs.Towers.{fits}
+use Rattle.towerbench.specs.Courses.{course_from, course_of}
+use Rattle.towerbench.specs.DeskOpenings.{Builds}
 use Rattle.towerbench.proofs.running.run_setup.Goals as goal
+
+-- a register builds a tower if the same steps fit its behaviour, and the course of scripts on it is
+-- the tower's
+builds_as : {R P : Type 0} (is : R → Behaviour P) (register : R) (value : ℕ) (b : Behaviour P) (given tower : TowerSpec) → is register ≡ b → tower ≡ given
+    → ((s : Step) → fits tower s ≡ fits_step b s) → ((limits : Limits) (ls : List Limb) → course_of tower limits ls ≡ course_from (opening_of_limbs b value limits ls))
+    → Builds is register value given
+builds_as is register value b given tower register_is tower_is alike course =
+    record {
+      alike = λ s. ap (λ t. fits t s) (sym tower_is) ∙ alike s ∙ ap (λ x. fits_step x s) (sym register_is);
+      course = λ limits ls. ap (λ t. course_of t limits ls) (sym tower_is) ∙ course limits ls ∙ ap (λ x. course_from (opening_of_limbs x value limits ls)) (sym register_is);
+    }
 
 pub begin-requires-in-Copies-clause-builds : goal.begin-requires-in-Copies-clause-builds
 begin-requires-in-Copies-clause-builds g c =

@@ -1,7 +1,7 @@
 use Rattle.std.proofs.Common.{ℕ, ◌<◌, sym, ap, ◌∙◌, subst}
 use Rattle.turn.specs.Shares.{has_share}
-use Rattle.turn.specs.laws.Shares.{number_held}
-use Rattle.turn.proofs.Holds.{still_has, list_is_seen_then_grown, grown_by_at_most_one, put_ready, release_ready, still_owns, holding}
+use Rattle.turn.specs.laws.ShareLaws.{number_held}
+use Rattle.turn.proofs.Holds.{still_has, list_is_seen_then_unseen, unseen_at_most_one, put_ready, release_ready, still_owns, holding}
 use Rattle.turn.proofs.holding.hold.Goals as goal
 
 pub grab-requires-clause-some : goal.grab-requires-clause-some
@@ -19,8 +19,8 @@ publish-requires-clause-own g c =
 pub publish-requires-clause-added : goal.publish-requires-clause-added
 publish-requires-clause-added g c =
     let t = c.take-value.ensures in let adds = c.work-answer.ensures.added in (
-      list_is_seen_then_grown g.T.Counted.by g.T.Counted.entries c.args.access.now.me c.grab.new.access.me c.take-value.new.access.me c.take-value.result c.grab.ensures.grabs c.requires.idle.0 t.value t.empty _ _ adds,
-      grown_by_at_most_one g.T.Counted.by g.T.Counted.entries c.args.access.now.me c.grab.new.access.me c.take-value.new.access.me c.take-value.result c.grab.ensures.grabs c.requires.idle.0 t.value t.empty _ _ adds,
+      list_is_seen_then_unseen g.T.Counted.by g.T.Counted.entries c.args.access.now.me c.grab.new.access.me c.take-value.new.access.me c.take-value.result c.grab.ensures.grabs c.requires.idle.0 t.value t.empty _ _ adds,
+      unseen_at_most_one g.T.Counted.by g.T.Counted.entries c.args.access.now.me c.grab.new.access.me c.take-value.new.access.me c.take-value.result c.grab.ensures.grabs c.requires.idle.0 t.value t.empty _ _ adds,
     )
 
 pub put-requires-clause-published : goal.put-requires-clause-published

@@ -3,7 +3,7 @@ use Rattle.std.specs.Arc.{arc_value}
 use Rattle.checkpoints.specs.Segment.{IsRun}
 use Rattle.cutoff.specs.Fitting.{part_of}
 use Rattle.views.specs.Spots.{parts_events}
-use Rattle.views.proofs.Indices.{indexed_more}
+use Rattle.views.proofs.IndexedEvents.{indexed_more}
 use Rattle.views.proofs.Spots.{events_more}
 use Rattle.views.proofs.spot.history_of.Goals as goal
 

@@ -22,7 +22,7 @@ put-requires g c = taken_within_slots (IsDoneOf g.J.Runnable.named g.J.Runnable.
 pub loop-taken-preserved : goal.loop-taken-preserved
 loop-taken-preserved g c =
     let ends = IsDoneOf g.J.Runnable.named g.J.Runnable.gives in
-    let jobs = (worker_view c.args.bench.0).jobs in
+    let jobs = (worker_view c.args.workplace.0).jobs in
     let took = c.in-Some.ensures.rule in
     let on = at_work_after_job ends jobs _ (worker_view c.pop_as.new.self) c.loop-taken.slots.items c.in-Some.taken c.run_job-done.result c.loop-taken.invariant.ready took c.run_job-done.ensures in
     let kept = c.in-Some.ensures.same.0 in

@@ -7,9 +7,9 @@ use Rattle.workers.proofs.crew.work.Given as goal
 
 abbrev pub invariant-loop-taken : goal.invariant-loop-taken
 invariant-loop-taken g l = record {
-  same : SameOwner l.fn.bench.0 l.owner;
+  same : SameOwner l.fn.workplace.0 l.owner;
   fifo : worker_flavor l.owner ≡ 0;
-  ready : IsAtWork (IsDoneOf g.J.Runnable.named g.J.Runnable.gives) (worker_view l.fn.bench.0).jobs (worker_view l.owner) l.slots.items;
+  ready : IsAtWork (IsDoneOf g.J.Runnable.named g.J.Runnable.gives) (worker_view l.fn.workplace.0).jobs (worker_view l.owner) l.slots.items;
 }
 
 abbrev pub decreases-loop-taken : goal.decreases-loop-taken

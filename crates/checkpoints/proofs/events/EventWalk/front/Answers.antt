@@ -1,6 +1,6 @@
 use Rattle.std.proofs.Common.{◌∙◌, ap, take}
 use Rattle.checkpoints.specs.StoredEvents.{stored_events}
-use Rattle.checkpoints.specs.Reports.{reported_events}
+use Rattle.checkpoints.specs.MarkedSteps.{reported_events}
 use Rattle.checkpoints.proofs.MarkedEvents.{front_reported}
 use Rattle.checkpoints.proofs.events.EventWalk.front.Goals as goal
 

@@ -6,8 +6,8 @@ use Rattle.cutoff.specs.Plans.{FitsDown, CanInstall, CannotInstall, IsInstalled}
 use Rattle.cutoff.specs.Fitting.{IsChecked}
 use Rattle.cutoff.proofs.Installed.{charted_installed, noted_keeps}
 use Rattle.cutoff.proofs.Checks.{charted_checked}
-use Rattle.cutoff.proofs.RestWalks.{noted_at}
 use Rattle.cutoff.proofs.SameBranches.{cut_kept}
+use Rattle.cutoff.proofs.Noted.{noted_at}
 use Rattle.cutoff.proofs.chart.Chart.install.Goals as goal
 
 pub returns-then-not-fits : goal.returns-then-not-fits

@@ -1,7 +1,7 @@
 use Rattle.std.proofs.Common.{◌≡◌, Ok, sym, subst}
 use Rattle.schedule_trie.specs.Forest.{opened}
 use Rattle.schedule_trie.specs.Trie.{forest}
-use Rattle.cutoff.proofs.Edits.{opened_fits}
+use Rattle.cutoff.proofs.FittingSteps.{opened_fits}
 use Rattle.cutoff.proofs.chart.Chart.new.Goals as goal
 
 pub over-requires-clause-fits : goal.over-requires-clause-fits

@@ -1,4 +1,4 @@
-use Rattle.cutoff.proofs.Edits.{charted_new}
+use Rattle.cutoff.proofs.NewCharts.{charted_new}
 use Rattle.cutoff.proofs.chart.Chart.over.Goals as goal
 
 pub invariant_of-result : goal.invariant_of-result

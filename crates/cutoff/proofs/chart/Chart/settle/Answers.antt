@@ -1,8 +1,8 @@
 use Rattle.std.proofs.Common.{◌≡◌, sym, ap, ◌∙◌}
 use Rattle.schedule_trie.specs.Forest.{index_of}
 use Rattle.schedule_trie.specs.Trie.{forest}
-use Rattle.cutoff.proofs.SameBranches.{look_found}
 use Rattle.cutoff.proofs.Parts.{read_settled}
+use Rattle.cutoff.proofs.NamedBranches.{look_found}
 use Rattle.cutoff.proofs.chart.Chart.settle.Goals as goal
 
 pub unreachable-requires : goal.unreachable-requires

@@ -5,8 +5,10 @@ use Rattle.schedule_trie.specs.Trie.{line, segment_at, keys_in, forest}
 use Rattle.cutoff.specs.Fitting.{part_of}
 use Rattle.cutoff.specs.Charts.{look}
 use Rattle.cutoff.specs.Settles.{IsSettledLast}
-use Rattle.cutoff.proofs.SameBranches.{chart_known, len_there, look_there, refused_still, out_of_memory, seen_begins, all_kept}
+use Rattle.cutoff.proofs.SameBranches.{chart_known, seen_begins, all_kept}
 use Rattle.cutoff.proofs.LastRuns.{charted_settled, marked_settled, place_found, offset_below, none_settled, last_settled, keeps_named}
+use Rattle.cutoff.proofs.NamedBranches.{len_there, look_there}
+use Rattle.cutoff.proofs.Refusals.{refused_still, out_of_memory}
 use Rattle.cutoff.proofs.chart.Chart.settle_last.Goals as goal
 
 pub returns-then-place-eq0-clause-ok : goal.returns-then-place-eq0-clause-ok
@@ -35,8 +37,8 @@ invariant_of-self g c =
     let index = c.in_ok-index.index in
     let lies = place_found c.self.inside.trie index c.args.place c.in-Some.key c.in-Some.offset c.in-Some.ensures.lies c.if-place-eq0.false in
     let keeps = c.settle_rest.ensures.keeps index (c.in-Some.offset + 1) c.args.place (c.in_ok-rest.ensures index (c.in-Some.offset + 1) c.args.place lies) in
-    rw c.or-self-inside.ensures (charted_settled g.R.PartialEq.eq g.R.Behaves.behaviour c.self.inside.next c.settle_rest.new.next c.self.inside.fresh c.self.inside.mark c.following.result None _ c.settle_rest.new.trie _
-    keeps c.settle_rest.ensures.linked c.following.ensures c.settle_rest.ensures.fresh tt c.self.invariant)
+    rw c.or-self-inside.ensures (charted_settled g.R.PartialEq.eq g.R.Behaves.behaviour c.self.inside.next c.settle_rest.new.next c.self.inside.fresh c.self.inside.mark c.peek.result None _ c.settle_rest.new.trie _
+    keeps c.settle_rest.ensures.linked c.peek.ensures c.settle_rest.ensures.fresh tt c.self.invariant)
 
 pub invariant_of-self-2 : goal.invariant_of-self-2
 invariant_of-self-2 g c =
@@ -45,17 +47,17 @@ invariant_of-self-2 g c =
     let keeps = c.settle_rest.ensures.keeps index (c.in-Some.offset + 1) c.args.place (c.in_ok-rest.ensures index (c.in-Some.offset + 1) c.args.place lies) in
     let marked = marked_settled g.R.PartialEq.eq g.R.Behaves.behaviour c.self.inside.trie c.settle_rest.new.trie c.self.inside.start c.in-Some.key (c.in-Some.offset + 1) c.in_ok-stored.replayed lies.positive lies.within keeps.branches
     (λ i m place lies. c.in_ok-stored.ensures.settles i m place (c.in_ok-rest.ensures i m place lies)) in
-    rw c.or-self-inside.ensures (charted_settled g.R.PartialEq.eq g.R.Behaves.behaviour c.self.inside.next c.settle_rest.new.next c.self.inside.fresh c.self.inside.mark c.following.result (Some c.in-Some.key) _
-    c.settle_rest.new.trie _ keeps c.settle_rest.ensures.linked c.following.ensures c.settle_rest.ensures.fresh marked c.self.invariant)
+    rw c.or-self-inside.ensures (charted_settled g.R.PartialEq.eq g.R.Behaves.behaviour c.self.inside.next c.settle_rest.new.next c.self.inside.fresh c.self.inside.mark c.peek.result (Some c.in-Some.key) _
+    c.settle_rest.new.trie _ keeps c.settle_rest.ensures.linked c.peek.ensures c.settle_rest.ensures.fresh marked c.self.invariant)
 
 pub returns-clause-ok : goal.returns-clause-ok
 returns-clause-ok g c =
     let index = c.in_ok-index.index in
     let lies = place_found c.self.inside.trie index c.args.place c.in-Some.key c.in-Some.offset c.in-Some.ensures.lies c.if-place-eq0.false in
     subst (λ v. IsSettledLast g.R.PartialEq.eq (g.R.Behaves.behaviour v.start.register) v (record { trie = c.settle_rest.new.trie; start = c.self.inside.start; value = c.self.inside.value }) c.args.branch.now c.args.place
-    (option_map part_of c.counted-part.result) c.in_ok-stored.replayed) c.self.view_is
+    (option_map part_of c.into_part-part.result) c.in_ok-stored.replayed) c.self.view_is
     (subst (λ o. IsSettledLast g.R.PartialEq.eq (g.R.Behaves.behaviour c.self.inside.start.register) (record { trie = c.self.inside.trie; start = c.self.inside.start; value = c.self.inside.value })
-    (record { trie = c.settle_rest.new.trie; start = c.self.inside.start; value = c.self.inside.value }) c.args.branch.now c.args.place o c.in_ok-stored.replayed) (sym c.counted-part.ensures)
+    (record { trie = c.settle_rest.new.trie; start = c.self.inside.start; value = c.self.inside.value }) c.args.branch.now c.args.place o c.in_ok-stored.replayed) (sym c.into_part-part.ensures)
     (last_settled g.R.PartialEq.eq g.R.Behaves.behaviour _ _ c.args.branch.now c.args.place c.in-Some.key (c.in-Some.offset + 1) index c.in_ok-stored.replayed c.in_ok-stored.stored c.in_ok-index.ensures.index
     (c.in_ok-stored.ensures.settles index (c.in-Some.offset + 1) c.args.place (c.in_ok-rest.ensures index (c.in-Some.offset + 1) c.args.place lies)) c.in_ok-stored.ensures.stored))
 

@@ -22,7 +22,7 @@ loop-done-preserved g c =
       at = c.install-answer.ensures.chair;
       stays = keeps_seen_trans (view c.args.chair.now) (view c.loop-done.chair) (view c.install-answer.new.chair) was.stays c.install-answer.ensures.stays;
       owns = c.install-answer.ensures.owns;
-      sum = rw c.count.ensures (sum_more answer c.loop-done.report was.sum);
-      count = let all = was.count in let gone = steps.1 in let one = ap (λ r. r.planned) c.count.ensures ∙ planned_more answer c.loop-done.report in omega arith;
+      sum = rw c.add.ensures (sum_more answer c.loop-done.report was.sum);
+      count = let all = was.count in let gone = steps.1 in let one = ap (λ r. r.planned) c.add.ensures ∙ planned_more answer c.loop-done.report in omega arith;
       len = let len = was.len in let gone = steps.1 in let short = ap length steps.0 in omega arith;
     }

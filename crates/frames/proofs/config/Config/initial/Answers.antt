@@ -1,5 +1,5 @@
 use Rattle.std.proofs.Common.{replicate, ap, ◌∙◌}
-use Rattle.frames.specs.Parked.{idle}
+use Rattle.frames.specs.StoredConfiguration.{idle}
 use Rattle.frames.proofs.Stacks.{first_is_initial, first_flat}
 use Rattle.frames.proofs.config.Config.initial.Goals as goal
 

@@ -1,7 +1,7 @@
 use Rattle.std.proofs.Common.{true, slice_set, ◌<◌, length, sym, ap, subst, ◌∙◌, arith}
 use Rattle.std.proofs.lemmas.List.{length-map, with_items_is}
 use Rattle.frames.specs.declared.types.Event.TheVariants.{Stop}
-use Rattle.frames.specs.Parked.{IsFlat, parked_configuration, stacks_of, marks_of}
+use Rattle.frames.specs.StoredConfiguration.{IsFlat, stacked_configuration, stacks_of, marks_of}
 use Rattle.frames.proofs.Stepped.{marked_flat, mark_gives_effect}
 use Rattle.frames.proofs.config.Config.stop.Goals as goal
 
@@ -19,7 +19,7 @@ invariant_of-self g c =
     let marked = c.mark_stopped.new.processes in
     let lt = subst (λ x. c.args.who < (g.R.Behaves.behaviour x.register).processes) (sym c.self.view_is) c.requires in
     subst (λ ps. IsFlat (g.R.Behaves.behaviour r) (g.R.Register.Holds r) (g.R.Register.Reaches r)
-    (parked_configuration (g.R.Register.point r) r t.store (stacks_of ps) (marks_of ps)) (stacks_of ps))
+    (stacked_configuration (g.R.Register.point r) r t.store (stacks_of ps) (marks_of ps)) (stacks_of ps))
     (sym (with_items_is t.processes marked (c.mark_stopped.auto.processes ∙ c.deref_mut.ensures.len)))
     (marked_flat (g.met.R.Register.lawful r) (g.met.R.Register.reports r) t.processes.items c.self.invariant
     c.args.who lt marked
@@ -35,7 +35,7 @@ returns g c =
     rw (← c.self.view_is)
     (record {
       events = c.one_event.ensures;
-      after = ap (λ ps. parked_configuration (g.R.Register.point r) r t.store (stacks_of ps) (marks_of ps))
+      after = ap (λ ps. stacked_configuration (g.R.Register.point r) r t.store (stacks_of ps) (marks_of ps))
           (with_items_is t.processes marked (c.mark_stopped.auto.processes ∙ c.deref_mut.ensures.len))
           ∙ mark_gives_effect (g.met.R.Register.lawful r) (g.met.R.Register.reports r) t.processes.items c.self.invariant
           c.args.who lt (Stop c.args.who) marked

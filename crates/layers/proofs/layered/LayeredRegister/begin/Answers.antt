@@ -1,7 +1,7 @@
 use Rattle.layers.specs.Nested.{layered}
 use Rattle.layers.specs.laws.Layered.{layer_lawful}
 use Rattle.layers.specs.laws.Over.{over}
-use Rattle.layers.proofs.ByValue.{begun_has_reached, fits_empty_stack}
+use Rattle.layers.proofs.OnNewStack.{begun_has_reached, fits_empty_stack}
 use Rattle.layers.proofs.layered.LayeredRegister.begin.Goals as goal
 
 pub begin_on-end-requires-clause-room : goal.begin_on-end-requires-clause-room

@@ -3,7 +3,7 @@ use Rattle.std.specs.Prelude.{IsSome}
 use Rattle.std.proofs.lemmas.Bool.{eqb-true}
 use Rattle.lineage.specs.Family.{EndsAlone}
 use Rattle.lineage.specs.Lineages.{tip_at}
-use Rattle.lineage.proofs.Walks.{last_is}
+use Rattle.lineage.proofs.ClimbedPaths.{last_is}
 use Rattle.lineage.proofs.LoneTips.{tip_node, alone_if_one_holder, one_holder_if_alone}
 use Rattle.lineage.proofs.lineage.Lineage.ends_alone.Goals as goal
 

@@ -2,7 +2,7 @@ use Rattle.std.proofs.Common.{sym, ◌∙◌, ap}
 use Rattle.std.specs.Option.{option_copied}
 use Rattle.lineage.specs.Family.{item_at}
 use Rattle.lineage.specs.Lineages.{item_in}
-use Rattle.lineage.proofs.Walks.{item_is}
+use Rattle.lineage.proofs.ClimbedPaths.{item_is}
 use Rattle.lineage.proofs.lineage.Lineage.item.Goals as goal
 
 pub returns : goal.returns

@@ -2,8 +2,8 @@ use Rattle.std.proofs.Common.{◌≡◌, Some, set, refl, sym, ◌∙◌, ap}
 use Rattle.std.proofs.lemmas.List.{map-set}
 use Rattle.lineage.specs.Family.{item_at, with_item}
 use Rattle.lineage.specs.Lineages.{node, item_in, family_on}
-use Rattle.lineage.proofs.Walks.{item_is}
-use Rattle.lineage.proofs.SameLinks.{replaced_sound, replaced_paths}
+use Rattle.lineage.proofs.ClimbedPaths.{item_is}
+use Rattle.lineage.proofs.ReplacedItems.{replaced_sound, replaced_paths}
 use Rattle.lineage.proofs.lineage.Lineage.item_mut.Goals as goal
 
 pub invariant_of-self-lent : goal.invariant_of-self-lent

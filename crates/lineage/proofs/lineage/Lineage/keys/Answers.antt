@@ -2,8 +2,8 @@ use Rattle.std.proofs.Common.{◌≡◌, Option, ℕ, List, sym, ◌∙◌, ap, 
 use Rattle.std.proofs.lemmas.Result.{IfOk-weaker}
 use Rattle.lineage.specs.Family.{path_in}
 use Rattle.lineage.specs.Climbs.{Ends}
-use Rattle.lineage.specs.Lineages.{tip_at, above_node, path_to}
-use Rattle.lineage.proofs.Walks.{path_at}
+use Rattle.lineage.specs.Lineages.{tip_at, link_at, path_to}
+use Rattle.lineage.proofs.ClimbedPaths.{path_in_is}
 use Rattle.lineage.proofs.lineage.Lineage.keys.Goals as goal
 
 pub keys_down_to-requires : goal.keys_down_to-requires
@@ -11,7 +11,7 @@ keys_down_to-requires g c =
     let a = c.self.inside in
     let tip : c.get.result ≡ tip_at a.tips.items c.args.path =
     c.get.ensures ∙ c.tip_at.ensures ∙ ap (λ (xs : List (Option ℕ)). tip_at xs c.args.path) c.deref.ensures.value in
-    subst (Ends (above_node a.nodes.slots)) (sym tip) (c.self.invariant.ends c.args.path)
+    subst (Ends (link_at a.nodes.slots)) (sym tip) (c.self.invariant.ends c.args.path)
 
 pub returns : goal.returns
 returns g c =
@@ -19,5 +19,5 @@ returns g c =
     let tip : c.get.result ≡ tip_at a.tips.items c.args.path =
     c.get.ensures ∙ c.tip_at.ensures ∙ ap (λ (xs : List (Option ℕ)). tip_at xs c.args.path) c.deref.ensures.value in
     let path : path_to a.nodes.slots c.get.result ≡ path_in c.args.self.now c.args.path =
-    ap (path_to a.nodes.slots) tip ∙ sym (path_at a.nodes.slots a.tips.items c.args.path) ∙ ap (λ f. path_in f c.args.path) c.self.view_is in
+    ap (path_to a.nodes.slots) tip ∙ sym (path_in_is a.nodes.slots a.tips.items c.args.path) ∙ ap (λ f. path_in f c.args.path) c.self.view_is in
     IfOk-weaker c.keys_down_to.result _ _ (λ keys is. is ∙ path) c.keys_down_to.ensures

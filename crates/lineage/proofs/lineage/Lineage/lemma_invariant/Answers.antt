@@ -1,4 +1,4 @@
-use Rattle.lineage.proofs.Drops.{is_family}
+use Rattle.lineage.proofs.Families.{is_family}
 use Rattle.lineage.proofs.lineage.Lineage.lemma_invariant.Goals as goal
 
 pub returns : goal.returns

@@ -1,7 +1,7 @@
 use Rattle.std.proofs.Common.{Some, map, set, ◌∙◌, ap}
 use Rattle.std.proofs.lemmas.List.{map-set}
 use Rattle.lineage.specs.Lineages.{node, item_in}
-use Rattle.lineage.proofs.SameLinks.{replaced_sound, replaced_paths}
+use Rattle.lineage.proofs.ReplacedItems.{replaced_sound, replaced_paths}
 use Rattle.lineage.proofs.lineage.Lineage.replace.Goals as goal
 
 pub invariant_of-self : goal.invariant_of-self

@@ -1,7 +1,7 @@
 use Rattle.std.proofs.Common.{◌∙◌, ap}
 use Rattle.lineage.specs.Family.{item_at}
 use Rattle.lineage.specs.Lineages.{item_in}
-use Rattle.lineage.proofs.Walks.{item_is}
+use Rattle.lineage.proofs.ClimbedPaths.{item_is}
 use Rattle.lineage.proofs.Skips.{above_there, few_passed, gone_from, others_from, skipped_sound, skipped_paths, skipped_items}
 use Rattle.lineage.proofs.lineage.Lineage.take_out.Goals as goal
 

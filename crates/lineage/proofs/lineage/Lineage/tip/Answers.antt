@@ -1,6 +1,6 @@
 use Rattle.std.proofs.Common.{◌≡◌, Option, ℕ, List, sym, ◌∙◌, ap}
 use Rattle.lineage.specs.Lineages.{tip_at}
-use Rattle.lineage.proofs.Walks.{last_is}
+use Rattle.lineage.proofs.ClimbedPaths.{last_is}
 use Rattle.lineage.proofs.lineage.Lineage.tip.Goals as goal
 
 pub returns : goal.returns

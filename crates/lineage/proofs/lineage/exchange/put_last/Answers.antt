@@ -2,7 +2,7 @@ use Rattle.std.proofs.Common.{◌≡◌, ◌++◌, ◌∷◌, [], Some, None, le
 use Rattle.std.proofs.lemmas.List.{length_push, length-set, nil_from_length}
 use Rattle.std.specs.Vec.Iter.{into_iter_items}
 use Rattle.lineage.specs.Lineages.{tip_at, node, node_at}
-use Rattle.lineage.proofs.Chains.{IsPutSoFar, put_none, put_more, put_all}
+use Rattle.lineage.proofs.PutLast.{IsPutSoFar, put_none, put_more, put_all}
 use Rattle.lineage.proofs.Exchanges.{opened_sound}
 use Rattle.lineage.proofs.lineage.exchange.put_last.Goals as goal
 

@@ -1,7 +1,7 @@
 use Rattle.std.proofs.Common.{◌≡◌, ◌+◌, ◌<◌, ◌≤◌, ◌^◌, length}
 use Rattle.std.specs.Vec.Iter.{into_iter_items, into_iter_len}
 use Rattle.slab.specs.Slab.{slab_len}
-use Rattle.lineage.proofs.Chains.{IsPutSoFar}
+use Rattle.lineage.proofs.PutLast.{IsPutSoFar}
 use Rattle.lineage.proofs.lineage.exchange.put_last.Given as goal
 
 abbrev pub invariant-loop-item : goal.invariant-loop-item

@@ -1,5 +1,5 @@
 use Rattle.std.proofs.Common.{◌≡◌, ◌++◌, drop}
-use Rattle.pages.specs.Numbered.{numbered_lines}
+use Rattle.pages.specs.Lines.{numbered_lines}
 use Rattle.pages.proofs.page.lines.push_lines.Given as goal
 
 -- the lines so far, and then those of the remaining items, are all lines

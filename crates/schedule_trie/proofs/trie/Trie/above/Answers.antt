@@ -2,7 +2,7 @@ use Rattle.std.proofs.Common.{sym, ap, ◌∙◌}
 use Rattle.schedule_trie.specs.Trie.{segment_at, keys_in}
 use Rattle.schedule_trie.specs.TrieFields.{trie_of}
 use Rattle.schedule_trie.proofs.branches.Lines.{keys_are}
-use Rattle.schedule_trie.proofs.climbs.CellPlaces.{above_is, lacked_none}
+use Rattle.schedule_trie.proofs.climbs.KeysAbove.{above_is, lacked_none}
 use Rattle.schedule_trie.proofs.segments.StepSet.{none_there}
 use Rattle.schedule_trie.proofs.trie.Trie.above.Goals as goal
 

@@ -2,7 +2,7 @@ use Rattle.std.proofs.Common.{◌≡◌, ◌+◌, ◌≤◌, length, ap, sym, �
 use Rattle.std.proofs.lemmas.Result.{IfOk-from_err}
 use Rattle.branch_terms.specs.Forest.{renumbered}
 use Rattle.schedule_trie.specs.Trie.{segment_at, line, slots_of}
-use Rattle.schedule_trie.specs.changes.Copies.{AreCopies}
+use Rattle.schedule_trie.specs.changes.Detaches.{AreCopies}
 use Rattle.schedule_trie.proofs.branches.Lines.{slots_in_on}
 use Rattle.schedule_trie.proofs.detaches.Renumbered.{copies_more, copies_all, cell_after, cell_below, cell_fits}
 use Rattle.schedule_trie.proofs.trie.Trie.copies.Goals as goal

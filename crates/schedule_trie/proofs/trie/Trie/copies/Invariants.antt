@@ -1,6 +1,6 @@
 use Rattle.std.proofs.Common.{◌≡◌, ◌≤◌, ◌+◌, length, take, drop}
 use Rattle.schedule_trie.specs.Trie.{line, segment_at, keys_in}
-use Rattle.schedule_trie.specs.changes.Copies.{AreCopies}
+use Rattle.schedule_trie.specs.changes.Detaches.{AreCopies}
 use Rattle.schedule_trie.proofs.trie.Trie.copies.Given as goal
 use Rattle.branch_terms.specs.declared.limits.TheConstants.{MOST_CELLS_MADE}
 

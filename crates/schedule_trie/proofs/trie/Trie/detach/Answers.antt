@@ -1,7 +1,7 @@
 use Rattle.std.proofs.Common.{◌+◌, ◌≤◌, Ok, Err, length, cond, sym, ap, subst, ◌∙◌, arith}
 use Rattle.std.proofs.lemmas.Bool.{le-ltb}
 use Rattle.branch_terms.specs.declared.refusal.Refusal.TheVariants.{Full}
-use Rattle.schedule_trie.specs.changes.Copies.{IsDetached}
+use Rattle.schedule_trie.specs.changes.Detaches.{IsDetached}
 use Rattle.schedule_trie.specs.Trie.{forest}
 use Rattle.branch_terms.specs.Forest.{detach_at, on_found, slots_in}
 use Rattle.schedule_trie.proofs.trie.Trie.detach.Goals as goal

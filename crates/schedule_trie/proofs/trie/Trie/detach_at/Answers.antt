@@ -2,11 +2,11 @@ use Rattle.schedule_trie.specs.TrieFields.{trie_of}
 use Rattle.std.proofs.Common.{◌≡◌, ◌+◌, ◌<◌, ◌≤◌, length, refl, sym, subst}
 use Rattle.branch_terms.specs.Forest.{slots_in}
 use Rattle.schedule_trie.specs.Trie.{forest, segment_at, keys_in}
-use Rattle.schedule_trie.specs.changes.Copies.{AreCopies}
+use Rattle.schedule_trie.specs.changes.Detaches.{AreCopies}
 use Rattle.schedule_trie.proofs.detaches.Detaches.{detach_held, is_detached}
 use Rattle.schedule_trie.proofs.branches.Lines.{path_within}
 use Rattle.schedule_trie.proofs.lengths.LengthSteps.{detached_lengths}
-use Rattle.schedule_trie.proofs.edits.PushSteps.{roomed_kept, roomed_err}
+use Rattle.schedule_trie.proofs.segments.StepSet.{reserved_kept, reserved_err}
 use Rattle.schedule_trie.proofs.trie.Trie.detach_at.Goals as goal
 
 pub replace_path-requires : goal.replace_path-requires
@@ -15,12 +15,12 @@ replace_path-requires g c =
 
 pub invariant_of-self : goal.invariant_of-self
 invariant_of-self g c =
-    roomed_kept c.self.inside (record c.self.inside { segments = c.replace_path.new.self })
+    reserved_kept c.self.inside (record c.self.inside { segments = c.replace_path.new.self })
     refl c.in_err-replace_path.ensures.err refl refl c.self.invariant
 
 pub returns-in_err-replace_path-clause-err : goal.returns-in_err-replace_path-clause-err
 returns-in_err-replace_path-clause-err g c =
-    roomed_err c.self.inside (record c.self.inside { segments = c.replace_path.new.self })
+    reserved_err c.self.inside (record c.self.inside { segments = c.replace_path.new.self })
     refl c.in_err-replace_path.ensures.err refl refl c.from_residual-in_err-replace_path.result c.self.view_is
 
 pub invariant_of-self-2 : goal.invariant_of-self-2

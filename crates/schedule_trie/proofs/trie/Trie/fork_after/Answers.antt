@@ -8,7 +8,7 @@ use Rattle.schedule_trie.specs.Climbs.{keys_to, HasClimbedTo}
 use Rattle.schedule_trie.proofs.forks.ForkSteps.{reached_there, held_after_fork, is_forked_at_end, is_forked_whole}
 use Rattle.schedule_trie.proofs.lengths.LengthSteps.{forked_lengths}
 use Rattle.schedule_trie.proofs.branches.NamesKept.{forked_names}
-use Rattle.schedule_trie.proofs.edits.PushSteps.{roomed_kept}
+use Rattle.schedule_trie.proofs.segments.StepSet.{reserved_kept}
 use Rattle.schedule_trie.proofs.trie.Trie.fork_after.Goals as goal
 
 pub fork-requires : goal.fork-requires
@@ -17,12 +17,12 @@ fork-requires g c =
 
 pub invariant_of-self : goal.invariant_of-self
 invariant_of-self g c =
-    roomed_kept c.self.inside (record c.self.inside { branches = c.reserve.new.self })
+    reserved_kept c.self.inside (record c.self.inside { branches = c.reserve.new.self })
     c.in_err-reserve.ensures.entries refl refl refl c.self.invariant
 
 pub invariant_of-self-in_err-fork : goal.invariant_of-self-in_err-fork
 invariant_of-self-in_err-fork g c =
-    roomed_kept c.self.inside (record c.self.inside { segments = c.fork.new.self; branches = c.reserve.new.self })
+    reserved_kept c.self.inside (record c.self.inside { segments = c.fork.new.self; branches = c.reserve.new.self })
     c.in_ok-reserve.ensures.entries c.in_err-fork.ensures.err refl refl c.self.invariant
 
 pub invariant_of-self-2 : goal.invariant_of-self-2

@@ -4,7 +4,8 @@ use Rattle.schedule_trie.specs.Trie.{segment_at, keys_in, line}
 use Rattle.schedule_trie.specs.Climbs.{keys_to}
 use Rattle.schedule_trie.specs.changes.Forks.{IsBranchForked}
 use Rattle.schedule_trie.proofs.climbs.Climbs.{cells_to, cells_within}
-use Rattle.schedule_trie.proofs.forks.ForkEnds.{map_on_ok, always_on_ok, have_cells, no_keys, all_to}
+use Rattle.schedule_trie.proofs.forks.ForkEnds.{have_cells, no_keys, all_to}
+use Rattle.schedule_trie.proofs.Results.{map_on_ok, always_on_ok}
 use Rattle.schedule_trie.proofs.branches.Lines.{slots_in_on}
 use Rattle.schedule_trie.proofs.trie.Trie.fork_at.Goals as goal
 

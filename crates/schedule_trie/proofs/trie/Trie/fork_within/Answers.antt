@@ -6,12 +6,11 @@ use Rattle.lineage.specs.Family.{with_item, IsForkedAbove}
 use Rattle.branch_terms.specs.Forest.{index_of}
 use Rattle.schedule_trie.specs.Trie.{forest, keys_in, line, segment_at, slots_of, has}
 use Rattle.schedule_trie.specs.changes.Forks.{IsBranchForked}
-use Rattle.schedule_trie.specs.TrieFields.{trie_of, IsHeldTrie}
+use Rattle.schedule_trie.specs.TrieFields.{trie_of, IsWholeWithPaths}
 use Rattle.schedule_trie.proofs.forks.DivisionSteps.{still_there}
 use Rattle.schedule_trie.proofs.forks.ForkCutSteps.{cut_fork}
 use Rattle.schedule_trie.proofs.lists.KeyPositions.{parting}
-use Rattle.schedule_trie.proofs.edits.PushSteps.{roomed_kept, roomed_err}
-use Rattle.schedule_trie.proofs.segments.StepSet.{held_there}
+use Rattle.schedule_trie.proofs.segments.StepSet.{held_there, reserved_kept, reserved_err}
 use Rattle.schedule_trie.proofs.lengths.LengthSteps.{forked_lengths}
 use Rattle.schedule_trie.proofs.branches.NamesKept.{forked_names}
 use Rattle.schedule_trie.proofs.trie.Trie.fork_within.Given.{Over}
@@ -23,7 +22,7 @@ parts_at-requires g c = omega (arith, c.requires.inside, ap length c.slots_at.en
 pub invariant_of-self : goal.invariant_of-self
 invariant_of-self g c =
     let t = c.self.inside in
-    roomed_kept t (record t { branches = c.reserve.new.self }) c.in_err-reserve.ensures.entries refl refl refl
+    reserved_kept t (record t { branches = c.reserve.new.self }) c.in_err-reserve.ensures.entries refl refl refl
     c.self.invariant
 
 pub returns-in_err-reserve-clause-ok : goal.returns-in_err-reserve-clause-ok
@@ -31,13 +30,13 @@ returns-in_err-reserve-clause-ok g c front back e = IfOk-from_err _ _ c.from_res
 
 pub returns-in_err-reserve-clause-err : goal.returns-in_err-reserve-clause-err
 returns-in_err-reserve-clause-err g c =
-    roomed_err c.self.inside (record c.self.inside { branches = c.reserve.new.self }) c.in_err-reserve.ensures.entries refl refl refl
+    reserved_err c.self.inside (record c.self.inside { branches = c.reserve.new.self }) c.in_err-reserve.ensures.entries refl refl refl
     c.from_residual-in_err-reserve.result c.self.view_is
 
 pub invariant_of-self-in_err-fork_above : goal.invariant_of-self-in_err-fork_above
 invariant_of-self-in_err-fork_above g c =
     let t = c.self.inside in
-    roomed_kept t (record t { segments = c.fork_above.new.self; branches = c.reserve.new.self })
+    reserved_kept t (record t { segments = c.fork_above.new.self; branches = c.reserve.new.self })
     c.in_ok-reserve.ensures.entries c.in_err-fork_above.ensures.err refl refl c.self.invariant
 
 pub returns-in_err-fork_above-clause-ok : goal.returns-in_err-fork_above-clause-ok
@@ -45,7 +44,7 @@ returns-in_err-fork_above-clause-ok g c front back e = IfOk-from_err _ _ c.from_
 
 pub returns-in_err-fork_above-clause-err : goal.returns-in_err-fork_above-clause-err
 returns-in_err-fork_above-clause-err g c =
-    roomed_err c.self.inside (record c.self.inside { segments = c.fork_above.new.self; branches = c.reserve.new.self })
+    reserved_err c.self.inside (record c.self.inside { segments = c.fork_above.new.self; branches = c.reserve.new.self })
     c.in_ok-reserve.ensures.entries c.in_err-fork_above.ensures.err refl refl c.from_residual-in_err-fork_above.result c.self.view_is
 
 pub fork_above-requires : goal.fork_above-requires
@@ -60,7 +59,7 @@ entered : (g : Over) (c : goal.After-insert_reserved g) → c.insert_reserved.ne
 entered g c = c.insert_reserved.ensures ∙ ap (λ es. insert_entry (pointwise nat_eq) es c.args.name None) c.in_ok-reserve.ensures.entries
 
 forked : (g : Over) (c : goal.After-insert_reserved g) (front back : List ℕ) → keys_in (trie_of c.self.inside).branches c.args.index ≡ front ++ c.args.key ∷ back
-    → IsHeldTrie (record c.self.inside { segments = with_item c.fork_above.new.self c.args.key c.set_slots.new.self; branches = c.insert_reserved.new.branches })
+    → IsWholeWithPaths (record c.self.inside { segments = with_item c.fork_above.new.self c.args.key c.set_slots.new.self; branches = c.insert_reserved.new.branches })
     × IsBranchForked (trie_of c.self.inside) (trie_of (record c.self.inside { segments = with_item c.fork_above.new.self c.args.key c.set_slots.new.self; branches = c.insert_reserved.new.branches }))
     c.args.index (length (line (segment_at (trie_of c.self.inside).segments) front) + c.args.count) c.args.name
 forked g c front back path =

@@ -1,6 +1,6 @@
 use Rattle.std.proofs.Common.{arith}
 use Rattle.schedule_trie.proofs.edits.InsertSteps.{inserted_before, inserted_last}
-use Rattle.schedule_trie.proofs.forks.ForkEnds.{map_on_ok}
+use Rattle.schedule_trie.proofs.Results.{map_on_ok}
 use Rattle.schedule_trie.proofs.trie.Trie.insert_at.Goals as goal
 
 pub returns-in-Some-clause-ok : goal.returns-in-Some-clause-ok

@@ -7,7 +7,8 @@ use Rattle.branch_terms.specs.Renumbering.{IsRenumbered}
 use Rattle.branch_terms.proofs.LimbsKept.{limbs_kept}
 use Rattle.branch_terms.proofs.LimbsLawful.{limbs_lawful}
 use Rattle.schedule_trie.proofs.limbs.LimbLimits.{limbs_within}
-use Rattle.schedule_trie.proofs.limbs.LimbsSaved.{length-limbs, taken_next}
+use Rattle.schedule_trie.proofs.limbs.LimbsSaved.{length-limbs}
+use Rattle.schedule_trie.proofs.lists.ListParts.{taken_next}
 use Rattle.branch_terms.proofs.Lists.{slice_get_some}
 use Rattle.schedule_trie.proofs.trie.Trie.limbs.Goals as goal
 

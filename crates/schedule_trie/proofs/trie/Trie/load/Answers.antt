@@ -1,6 +1,6 @@
 use Rattle.std.proofs.Common.{ap, ◌∙◌}
 use Rattle.branch_terms.specs.Limbs.{limbs}
-use Rattle.branch_terms.proofs.LimbLaws.{forest_count, forest_made, limbs_again}
+use Rattle.branch_terms.proofs.LimbsAgain.{forest_count, forest_made, limbs_again}
 use Rattle.std.proofs.Common.{length}
 use Rattle.schedule_trie.proofs.trie.Trie.load.Goals as goal
 

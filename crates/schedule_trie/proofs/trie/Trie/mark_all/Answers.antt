@@ -1,6 +1,6 @@
 use Rattle.std.proofs.Common.{◌+◌, ◌<◌, ◌^◌, length, get_or, sym, ap, subst, ◌∙◌, arith}
 use Rattle.schedule_trie.specs.Trie.{segment_at}
-use Rattle.schedule_trie.proofs.branches.Openings.{get_or_own}
+use Rattle.schedule_trie.proofs.lists.ListParts.{get_or_own}
 use Rattle.schedule_trie.proofs.limbs.MarkSteps.{marked_none, cells_fit, key_among, marked_more, marked_all}
 use Rattle.schedule_trie.proofs.trie.Trie.mark_all.Goals as goal
 use Rattle.schedule_trie.proofs.trie.Trie.mark_all.Given.{Over}

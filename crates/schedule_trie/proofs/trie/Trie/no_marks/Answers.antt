@@ -19,4 +19,4 @@ loop-preserved g c = record {
 pub returns : goal.returns
 returns g c =
     let count = c.loop.invariant.count in
-    no_marks_first c.self.inside c.args.self.now c.room-end.result c.loop.marks.items c.self.view_is c.room-end.ensures (omega (arith, count, c.loop-test.false)) c.loop.invariant.empty
+    no_marks_first c.self.inside c.args.self.now c.capacity-end.result c.loop.marks.items c.self.view_is c.capacity-end.ensures (omega (arith, count, c.loop-test.false)) c.loop.invariant.empty

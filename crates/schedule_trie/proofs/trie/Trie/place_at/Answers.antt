@@ -6,7 +6,7 @@ use Rattle.schedule_trie.specs.Climbs.{keys_to}
 use Rattle.schedule_trie.proofs.climbs.Climbs.{cells_within, place_up, place_above}
 use Rattle.schedule_trie.proofs.climbs.ClimbSteps.{path_last, branch_once, branch_short, climb_pass}
 use Rattle.schedule_trie.proofs.branches.Lines.{slots_in_on}
-use Rattle.schedule_trie.proofs.climbs.CellPlaces.{position-within}
+use Rattle.schedule_trie.proofs.lists.Searches.{position-within}
 use Rattle.schedule_trie.proofs.trie.Trie.place_at.Goals as goal
 
 pub loop-up-init : goal.loop-up-init

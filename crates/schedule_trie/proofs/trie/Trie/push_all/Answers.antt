@@ -1,5 +1,5 @@
 use Rattle.std.proofs.Common.{ap, arith}
-use Rattle.schedule_trie.proofs.branches.Openings.{get_or_own}
+use Rattle.schedule_trie.proofs.lists.ListParts.{get_or_own}
 use Rattle.schedule_trie.proofs.edits.PushedAll.{pushed_none, pushed_more}
 use Rattle.schedule_trie.proofs.trie.Trie.push_all.Goals as goal
 

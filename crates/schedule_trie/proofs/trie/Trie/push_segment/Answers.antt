@@ -3,7 +3,7 @@ use Rattle.schedule_trie.specs.Trie.{IsPushed}
 use Rattle.schedule_trie.specs.TrieFields.{trie_of}
 use Rattle.std.proofs.Common.{◌+◌, ◌<◌, ◌∙◌, None, ap, length, refl, sym, subst}
 use Rattle.schedule_trie.proofs.branches.Lines.{path_within}
-use Rattle.schedule_trie.proofs.edits.PushFresh.{segment_held, segment_pushed}
+use Rattle.schedule_trie.proofs.edits.PushFresh.{push_segment_held, push_segment_pushed}
 use Rattle.schedule_trie.proofs.lengths.Lengths.{names_set, relength_seen}
 use Rattle.schedule_trie.proofs.lengths.LengthSteps.{entry_within, right_lengths_kept, pushed_lengths}
 use Rattle.schedule_trie.proofs.trie.Trie.push_segment.Goals as goal
@@ -23,11 +23,11 @@ invariant_of-self-2 g c =
     let p = record t { segments = c.push.new.self; made = t.made + 1 } in
     let names = ap keys_of c.set_cached_len.ensures ∙ names_set t.branches.entries c.args.index None in
     right_lengths_kept p (record p { branches = c.set_cached_len.new.self }) names refl refl refl _
-    (segment_held t p c.args.index _ c.in_ok-segment.segment c.args.step c.self.invariant.held index_in room
+    (push_segment_held t p c.args.index _ c.in_ok-segment.segment c.args.step c.self.invariant.held index_in room
     c.in_ok-push.ensures.item c.in_ok-push.ensures.paths refl refl refl c.in_ok-segment.ensures.slots c.in_ok-segment.ensures.note)
     c.self.invariant.names
     (pushed_lengths (trie_of t) (trie_of p) t.branches.entries c.self.invariant.lengths c.args.index c.args.step
-    (segment_pushed t p c.args.index _ c.in_ok-segment.segment c.args.step c.self.invariant.held index_in room
+    (push_segment_pushed t p c.args.index _ c.in_ok-segment.segment c.args.step c.self.invariant.held index_in room
     c.in_ok-push.ensures.item c.in_ok-push.ensures.paths refl refl refl c.in_ok-segment.ensures.slots c.in_ok-segment.ensures.note)) c.set_cached_len.ensures
 
 pub returns-clause-ok : goal.returns-clause-ok
@@ -39,5 +39,5 @@ returns-clause-ok g c =
     let names = ap keys_of c.set_cached_len.ensures ∙ names_set t.branches.entries c.args.index None in
     rw (← c.self.view_is)
     (subst (λ z. IsPushed (trie_of t) z c.args.index c.args.step) (sym (relength_seen p (record p { branches = c.set_cached_len.new.self }) names refl refl refl))
-    (segment_pushed t p c.args.index _ c.in_ok-segment.segment c.args.step c.self.invariant.held index_in room
+    (push_segment_pushed t p c.args.index _ c.in_ok-segment.segment c.args.step c.self.invariant.held index_in room
     c.in_ok-push.ensures.item c.in_ok-push.ensures.paths refl refl refl c.in_ok-segment.ensures.slots c.in_ok-segment.ensures.note))

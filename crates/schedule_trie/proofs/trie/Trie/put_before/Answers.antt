@@ -1,5 +1,5 @@
 use Rattle.schedule_trie.specs.Trie.{IsPutBefore}
-use Rattle.schedule_trie.specs.TrieFields.{trie_of, IsHeldTrie}
+use Rattle.schedule_trie.specs.TrieFields.{trie_of, IsWholeWithPaths}
 use Rattle.std.proofs.Common.{◌+◌, refl, sym, subst, ◌≤◌, length}
 use Rattle.lineage.specs.Family.{with_item, IsAdded}
 use Rattle.schedule_trie.proofs.edits.InsertSteps.{divided}
@@ -20,7 +20,7 @@ item_mut-requires g c =
 
 -- the fields before the lengths are forgotten
 put : (g : Over) (c : goal.After-self-2-1 g)
-    → IsHeldTrie (record c.self.inside { segments = with_item c.divide.new.self c.args.key c.set_slots.new.self; made = c.self.inside.made + 1 })
+    → IsWholeWithPaths (record c.self.inside { segments = with_item c.divide.new.self c.args.key c.set_slots.new.self; made = c.self.inside.made + 1 })
     × IsPutBefore (trie_of c.self.inside) (trie_of (record c.self.inside { segments = with_item c.divide.new.self c.args.key c.set_slots.new.self; made = c.self.inside.made + 1 }))
     c.args.key c.args.offset c.args.step
 put g c =

@@ -2,8 +2,8 @@ use Rattle.std.proofs.Common.{sym, subst}
 use Rattle.schedule_trie.specs.Trie.{IsBlank, IsCut}
 use Rattle.schedule_trie.proofs.trie.Trie.with_steps.Goals as goal
 
-pub alone-requires-clause-limits : goal.alone-requires-clause-limits
-alone-requires-clause-limits g c = c.requires.limits
+pub with_empty_branch-requires-clause-limits : goal.with_empty_branch-requires-clause-limits
+with_empty_branch-requires-clause-limits g c = c.requires.limits
 
 pub returns-clause-cut : goal.returns-clause-cut
 returns-clause-cut g c =

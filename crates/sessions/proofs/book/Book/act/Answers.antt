@@ -4,7 +4,7 @@ use Rattle.schedule_trie.specs.Trie.{forest}
 use Rattle.sessions.specs.Logs.{entry}
 use Rattle.sessions.specs.Books.{opening_of}
 use Rattle.sessions.proofs.Books.{book_kept, book_after, acts_on_book, log_count, never_out_of_memory, opening_kept, opening_after}
-use Rattle.sessions.proofs.CursorPlaces.{are_within}
+use Rattle.sessions.proofs.CursorBounds.{are_within}
 use Rattle.sessions.proofs.book.Book.act.Goals as goal
 
 pub answer-requires : goal.answer-requires

@@ -2,7 +2,7 @@ use Rattle.std.proofs.Common.{subst}
 use Rattle.schedule_trie.specs.Trie.{IsCut}
 use Rattle.sessions.specs.Books.{BeginsAtOpening}
 use Rattle.sessions.specs.Books.{book_of}
-use Rattle.sessions.proofs.Openings.{begins_at_opening}
+use Rattle.sessions.proofs.SameStart.{begins_at_opening}
 use Rattle.sessions.proofs.book.Book.lemma_invariant.Goals as goal
 
 pub returns-clause-cut : goal.returns-clause-cut

@@ -1,5 +1,5 @@
 use Rattle.std.proofs.Common.{length}
-use Rattle.sessions.proofs.Loads.{limbs_are_saved}
+use Rattle.sessions.proofs.Saves.{limbs_are_saved}
 use Rattle.sessions.proofs.book.Book.limbs.Goals as goal
 
 pub returns : goal.returns

@@ -1,7 +1,7 @@
 use Rattle.std.proofs.Common.{◌∙◌, ap, subst, Ok}
 use Rattle.schedule_trie.specs.Trie.{forest}
 use Rattle.sessions.specs.Books.{IsNewBook}
-use Rattle.sessions.proofs.Loads.{loaded_is, opening_over_is}
+use Rattle.sessions.proofs.NewBooks.{loaded_is, opening_over_is}
 use Rattle.sessions.proofs.book.Book.load.Goals as goal
 
 pub returns-clause-new : goal.returns-clause-new

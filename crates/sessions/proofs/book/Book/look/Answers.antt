@@ -6,7 +6,7 @@ use Rattle.sessions.specs.Looks.{looked_in, shown_in}
 use Rattle.sessions.proofs.Books.{book_same, same_opening}
 use Rattle.sessions.proofs.KeptBranches.{kept_world}
 use Rattle.sessions.proofs.Looks.{others_at_branch, shown_at_branch, looked_at_branch}
-use Rattle.sessions.proofs.Openings.{same_tower}
+use Rattle.sessions.proofs.SameStart.{same_tower}
 use Rattle.sessions.proofs.book.Book.look.Goals as goal
 
 pub returns-in_default-clause-page : goal.returns-in_default-clause-page

@@ -9,7 +9,7 @@ use Rattle.sessions.specs.BreakLists.{breaks_at}
 use Rattle.sessions.specs.Books.{opening_of}
 use Rattle.sessions.specs.Logs.{world_after}
 use Rattle.sessions.specs.Looks.{cursor_page, looked_in, shown_in}
-use Rattle.sessions.proofs.Answered.{none_if_never_some}
+use Rattle.sessions.proofs.CommandAnswers.{none_if_never_some}
 use Rattle.sessions.proofs.Looks.{cursor_at_is, lacks_cursor_is}
 use Rattle.sessions.proofs.book.Book.look_at_cursor.Goals as goal
 

@@ -5,6 +5,7 @@ use Rattle.sessions.specs.declared.cursor.Shift.TheVariants.{Up, Down}
 use Rattle.sessions.proofs.UnmovedCursors.{unmoved}
 use Rattle.sessions.proofs.workspace.edits.change_and_move.Goals as goal
 
+-- what holds anyway holds if a result is Ok
 on_ok : {A E P : Type 0} (r : Result A E) → P → OnOk r P
 on_ok (Ok x) p = p
 on_ok (Err e) p = tt

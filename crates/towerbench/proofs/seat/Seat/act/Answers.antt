@@ -6,7 +6,7 @@ use Rattle.sessions.specs.Books.{opening_of}
 use Rattle.sessions.specs.Logs.{world_after}
 use Rattle.desk.specs.Histories.{seen}
 use Rattle.towerbench.specs.Seats.{Seated, IsAlone, world_at}
-use Rattle.towerbench.proofs.Replies.{received_answers}
+use Rattle.towerbench.proofs.DeskCalls.{received_answers}
 use Rattle.towerbench.proofs.seat.Seat.act.Goals as goal
 
 pub returns-clause-acts : goal.returns-clause-acts

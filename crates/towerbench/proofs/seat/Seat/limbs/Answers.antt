@@ -2,7 +2,7 @@ use Rattle.std.proofs.Common.{IfOk, subst}
 use Rattle.turn.specs.Chairs.{view}
 use Rattle.sessions.specs.Saves.{IsSaved}
 use Rattle.towerbench.specs.Seats.{Seated, IsAlone, world_at}
-use Rattle.towerbench.proofs.Replies.{saved_limbs}
+use Rattle.towerbench.proofs.DeskCalls.{saved_limbs}
 use Rattle.towerbench.proofs.seat.Seat.limbs.Goals as goal
 
 pub returns : goal.returns

@@ -7,7 +7,7 @@ use Rattle.desk.specs.Histories.{seen}
 use Rattle.desk.specs.Works.{IsAnswer, answer_by, answer_at}
 use Rattle.desk.proofs.Works.{page_answers}
 use Rattle.towerbench.specs.Seats.{Seated, IsAlone, world_at}
-use Rattle.towerbench.proofs.Replies.{looked_answers, looked_sees, shown, page_found, refused}
+use Rattle.towerbench.proofs.DeskCalls.{looked_answers, look_keeps_history, shown, page_found, refused}
 use Rattle.towerbench.proofs.seat.Seat.look.Given.{Over}
 use Rattle.towerbench.proofs.seat.Seat.look.Goals as goal
 
@@ -34,7 +34,7 @@ returns-clause-kept g c =
     let first = c.self.inside.desk.first.value in
     let after = world_after (opening_of is first) (seen (view c.slip-slip.new.chair)) in
     subst (λ (s : Seated g.row.R.Denot g.row.R-Pending.Denot). IsAlone s → after ≡ world_at is s) c.self.view_is
-    (λ all. ap (world_after (opening_of is first)) (looked_sees is first (view c.self.inside.chair) (view c.slip-slip.new.chair) c.args.query (answer_at c.slip-slip.result.0 c.slip-slip.result.1) c.slip-slip.ensures.looked all))
+    (λ all. ap (world_after (opening_of is first)) (look_keeps_history is first (view c.self.inside.chair) (view c.slip-slip.new.chair) c.args.query (answer_at c.slip-slip.result.0 c.slip-slip.result.1) c.slip-slip.ensures.looked all))
 
 pub returns-clause-alone : goal.returns-clause-alone
 returns-clause-alone g c =

@@ -32,6 +32,7 @@ take-value-requires g c =
     let one = e.counts.1 ∙ ap (λ (t : Table _ _ _ _ _). t.shared.table_id.slots) c.into_table.ensures ∙ c.args.turn.sized.1 in
     (omega (arith, one), e.values.1 0 (omega arith) (omega (arith, one)))
 
+-- a mark that is set to false is false, or there is none
 unset : (xs : List Bool) → get_or (set xs 0 false) 0 false ≡ false
 unset [] = refl
 unset (x ∷ xs) = refl

@@ -3,7 +3,7 @@ use Rattle.atomic_table.specs.Table.{Me}
 use Rattle.atomic_table.specs.declared.shared.Seat.{Seat}
 use Rattle.turn.specs.declared.view.View.{View}
 use Rattle.turn.specs.Shares.{has_share, chair_number}
-use Rattle.turn.specs.laws.Shares.{number_held}
+use Rattle.turn.specs.laws.ShareLaws.{number_held}
 use Rattle.turn.specs.Histories.{joined}
 use Rattle.turn.proofs.Calls.{joined_chair, joined_with_news}
 use Rattle.turn.proofs.chair.Chair.take_in.Goals as goal

@@ -1,6 +1,6 @@
 use Rattle.std.specs.Prelude.{◌&&◌, nat_lt, nat_le}
 use Rattle.turn.specs.Shares.{has_share, rank}
-use Rattle.turn.specs.laws.Shares.{MarkedBelow}
+use Rattle.turn.specs.laws.ShareLaws.{MarkedBelow}
 use Rattle.turn.proofs.shares.Shares.next_least.Given as goal
 
 abbrev pub invariant-loop-share : goal.invariant-loop-share

@@ -1,6 +1,6 @@
 use Rattle.std.specs.Prelude.{◌&&◌, not}
 use Rattle.turn.specs.Shares.{has_share}
-use Rattle.turn.specs.laws.Shares.{MarkedBelow}
+use Rattle.turn.specs.laws.ShareLaws.{MarkedBelow}
 use Rattle.turn.proofs.shares.Shares.without.Given as goal
 
 abbrev pub invariant-loop-share : goal.invariant-loop-share

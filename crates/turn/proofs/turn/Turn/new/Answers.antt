@@ -2,7 +2,7 @@ use Rattle.std.proofs.Common.{rules, ◌≡◌, ◌<◌, [], ◌∷◌, refl, sy
 use Rattle.atomic_table.specs.Table.{Me}
 use Rattle.turn.specs.declared.view.View.{View}
 use Rattle.turn.specs.Shares.{count, every_share}
-use Rattle.turn.specs.laws.Shares.{count_some}
+use Rattle.turn.specs.laws.ShareLaws.{count_some}
 use Rattle.turn.specs.Histories.{first_view, OwnsItsCalls}
 use Rattle.turn.proofs.Calls.{invariant_at_start, owns_first}
 use Rattle.turn.proofs.turn.Turn.new.Goals as goal

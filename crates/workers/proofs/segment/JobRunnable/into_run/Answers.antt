@@ -3,8 +3,8 @@ use Rattle.std.specs.Arc.{arc_value}
 use Rattle.frames.specs.Recorded.{AllFit}
 use Rattle.workers.proofs.segment.JobRunnable.into_run.Goals as goal
 
-pub run_of_all-requires : goal.run_of_all-requires
-run_of_all-requires g c =
+pub run_of_owned-requires : goal.run_of_owned-requires
+run_of_owned-requires g c =
     let is = g.R.Behaves.behaviour in
     subst (AllFit (is (arc_value c.self.inside.entry).register)) (sym c.into_vec.ensures) c.self.invariant
 

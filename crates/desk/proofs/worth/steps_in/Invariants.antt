@@ -1,7 +1,0 @@
-use Rattle.std.proofs.Common.{◌≤◌, take}
-use Rattle.desk.specs.Worth.{steps_of_all}
-use Rattle.desk.proofs.worth.steps_in.Given as goal
-
--- the steps are no more than those of the jobs so far
-abbrev pub invariant-loop-job : goal.invariant-loop-job
-invariant-loop-job g l = l.steps ≤ steps_of_all (take l.job-index l.jobs)
