@@ -4,9 +4,8 @@ import { answer } from "./engine.js";
 import { Document, EMPTY_TOWER } from "./document.js";
 import { LABEL, MARGIN } from "./measures.js";
 import { Model } from "./model.js";
-import { reasonOf } from "./reading.js";
 import { looksOf, readInside, stillRows } from "./still.js";
-import { storyOf } from "./stories.js";
+import { whyReturned } from "./stories.js";
 import { partOf } from "./exercises.js";
 import { withWords } from "./words.js";
 import { element, mounted } from "./elements.js";
@@ -22,18 +21,6 @@ async function picture(model, branch, place, room) {
   const count = Math.max(4, Math.min(length, Math.floor((room - LABEL - MARGIN) / column)));
   await model.look(looksOf(branch, 0, place));
   return stillRows(model, [branch], { most: place, column, count }).map(({ svg }) => mounted(svg));
-}
-// why a read of a branch up to a place gave its value
-function whyOf(model, branch, place, { at: begun, process }) {
-  const reading = readInside(model, branch, 0, place), { run, facts } = reading;
-  const isIt = (it) => it.kind === "read" && it.begun === Number(begun)
-    && it.process === Number(process);
-  const read = run.operations.find(isIt);
-  if (!read) return "";
-  const root = facts.layers.roots.find(({ operation }) => isIt(operation));
-  const gave = read.ending === "returned" ? ` returned ${read.value}` : "";
-  const words = [reasonOf(run, read), root && storyOf(facts, root)?.words].filter(Boolean);
-  return `p${read.process}'s read${gave}. ${words.join(" ")}`;
 }
 class Figure {
   constructor(target, model, branch) {
@@ -72,8 +59,8 @@ class Figure {
   explain({ target }) {
     const read = target.closest(".operation.read");
     if (!read || target.closest(".covered")) return;
-    const words = whyOf(this.model, this.branch, this.place, read.dataset);
-    this.why.replaceChildren(...withWords(words));
+    const reading = readInside(this.model, this.branch, 0, this.place);
+    this.why.replaceChildren(...withWords(whyReturned(reading, read.dataset)));
   }
   by(count) {
     this.pause();

@@ -1,5 +1,6 @@
 // Why a read gave its value, by what it read inside: a sentence, and what it names.
 import { codeWords, tagWords } from "./labels.js";
+import { reasonOf } from "./reading.js";
 
 const NOTHING = { words: "", parts: [], rows: [] };
 // Returns `words`, the sentence on a read; `parts`, the inner operations that it names; and `rows`,
@@ -10,6 +11,18 @@ export function storyOf(facts, root) {
   if (root.layer === "matrix") return storyOfMatrix(facts, root);
   if (root.layer === "stamped") return storyOfStamped(facts, root);
   return root.layer === "unary" ? storyOfNumber(facts, root) : storyOfBit(facts, root);
+}
+// why a read of a branch gave its value, in words, by what `readInside` returns: what it returned,
+// why it has its verdict, and its story; the read is found by its process and its first step, `at`
+export function whyReturned({ run, facts }, { at: begun, process }) {
+  const isIt = (it) => it.kind === "read" && it.begun === Number(begun)
+    && it.process === Number(process);
+  const read = run.operations.find(isIt);
+  if (!read) return "";
+  const root = facts.layers.roots.find(({ operation }) => isIt(operation));
+  const gave = read.ending === "returned" ? ` returned ${read.value}` : "";
+  const words = [reasonOf(run, read), root && storyOf(facts, root)?.words].filter(Boolean);
+  return `p${read.process}'s read${gave}. ${words.join(" ")}`;
 }
 function storyOfBit(facts, root) {
   const got = facts.bitOf(root), { readers } = facts.codes;

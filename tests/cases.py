@@ -30,6 +30,7 @@ REFUSED_WORDS = 2
 MOST_SECONDS = 300
 BYTES_SHOWN = 100
 BYTES_SHOWN_BEFORE = 30
+CHARACTERS_SHOWN = 500
 # What a path that is saved to holds before a run.
 KEPT = b"as it was\n"
 
@@ -41,6 +42,13 @@ Ran = collections.namedtuple("Ran", "output status errors")
 
 class Failure(Exception):
     """A test fails, or a case can't be read as one."""
+
+
+def expect_equal(found, wanted, label=""):
+    """Fails unless two values are equal; label: what they are."""
+    if found != wanted:
+        says = f"wanted {wanted!r:.{CHARACTERS_SHOWN}}, got {found!r:.{CHARACTERS_SHOWN}}"
+        raise Failure(f"{label}: {says}" if label else says)
 
 
 def run(program, words, script, environment=None):

@@ -71,15 +71,15 @@ MORE_IN_A_ROW = {
 # growths are refused in a row: some tests repeat a call that was refused memory, more often than
 # that.
 TESTS = (
-    ("thread_tests", "desks::growths::two_chairs_out_of_memory", (1,)),
-    ("thread_tests", "desks::growths::two_chairs_asking_again", (1, 2, 6)),
-    ("thread_tests", "desks::growths::thousand_steps_out_of_memory", (1, 2, 6)),
-    ("thread_tests", "desks::growths::thousand_steps_by_four_out_of_memory", (1, 2, 6)),
+    ("thread_tests", "desks::out_of_memory::two_chairs_out_of_memory", (1,)),
+    ("thread_tests", "desks::out_of_memory::two_chairs_asking_again", (1, 2, 6)),
+    ("thread_tests", "desks::out_of_memory::thousand_steps_out_of_memory", (1, 2, 6)),
+    ("thread_tests", "desks::out_of_memory::thousand_steps_by_four_out_of_memory", (1, 2, 6)),
     ("thread_tests", "desks::crossings::crossing_out_of_memory", (1, 2, 6)),
     ("thread_tests", "desks::limbs::limbs_out_of_memory", (1, 2, 6)),
-    ("branch_tests", "charts::growths::late_run_out_of_memory", (1, 2, 6)),
-    ("branch_tests", "charts::growths::thousand_steps_out_of_memory", (1, 2, 6)),
-    ("branch_tests", "charts::growths::last_run_of_thousand_steps_out_of_memory", (1, 2, 6)),
+    ("branch_tests", "charts::out_of_memory::late_run_out_of_memory", (1, 2, 6)),
+    ("branch_tests", "charts::out_of_memory::thousand_steps_out_of_memory", (1, 2, 6)),
+    ("branch_tests", "charts::out_of_memory::last_run_of_thousand_steps_out_of_memory", (1, 2, 6)),
 )
 SOURCE = "tests/refuse_growth.c"
 # How many growths were refused, by trial: threads may grow more or less often, so those with

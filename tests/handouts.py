@@ -8,7 +8,7 @@ import html.parser
 import os
 import re
 
-from tools import loaded
+from scratch import loaded
 
 VOID = ("meta", "br", "hr", "img")
 VERBATIM = ("pre", "code", "style")

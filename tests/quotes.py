@@ -1,4 +1,4 @@
-"""What each page under lessons/ quotes of the scripts and the outputs next to it.
+"""What each text under lessons/ quotes of the scripts and the outputs next to it.
 
 A block that begins with ```transcript NAME has lines that are typed, and below each some lines of
 its answer; one that begins with ```timeline NAME is looked at by tests/timelines.py.
@@ -6,10 +6,9 @@ its answer; one that begins with ```timeline NAME is looked at by tests/timeline
   has its blocks. `0 insert main 4.. r 1, 3 * g 1 0` is short for an insert of each of these four
   steps, at places 4 to 7.
 - The lines below one of them are in that command's answer in NAME.expected, in order.
-- The page says how the program is started on NAME.tower, or on NAME.bench, also with `--save`.
-- A line of an answer that the page's text names, as `4 p1 return 0` does, is one of those quoted in
-  its blocks. A command that it names, as `0 verdict main 6` does, is in one of
-  its scripts.
+- The text says how the program is started on NAME.tower, or on NAME.bench, also with `--save`.
+- A line of an answer that the text names, as `4 p1 return 0` does, is one of those quoted in its
+  blocks. A command that it names, as `0 verdict main 6` does, is in one of its scripts.
 - A lesson asks first: a question, a time line, and exercises, the last of them for a schedule of
   the reader's own, whose solution is your-own.script. All this fits a screen. The answers, with all
   transcripts, are folded away after it.
@@ -60,10 +59,10 @@ def written_out(line):
     return [f"{head}{place} {step}" for place, step in enumerate(steps, int(first))]
 
 
-def text_and_marked_blocks(page):
-    """Returns a page's text without its blocks, and of each block its mark and its lines."""
+def text_and_marked_blocks(path):
+    """Returns a text without its blocks, and of each block its mark and its lines."""
     text, blocks, is_inside = [], [], False
-    for line in page.read_text(encoding="ascii").splitlines():
+    for line in path.read_text(encoding="ascii").splitlines():
         if line.startswith(FENCE):
             is_inside = not is_inside
             if is_inside:
@@ -86,9 +85,9 @@ def answers(expected):
     return found
 
 
-def transcript_faults(page, name, lines):
+def transcript_faults(path, name, lines):
     """Yields what is wrong with the lines of all transcripts of a name, which are written out."""
-    script = page.parent / f"{name}.script"
+    script = path.parent / f"{name}.script"
     if not script.exists():
         yield f"there is no {script.name}"
         return
@@ -106,10 +105,10 @@ def transcript_faults(page, name, lines):
             yield f"{name}: `{command}` doesn't answer this here: {line}"
 
 
-def page_faults(page):
-    """Yields what is wrong with what a page quotes and names of its scripts and outputs."""
-    text, blocks = text_and_marked_blocks(page)
-    transcripts = {it.stem: [] for it in page.parent.glob("*.script")}
+def quote_faults(path):
+    """Yields what is wrong with what a text quotes and names of its scripts and outputs."""
+    text, blocks = text_and_marked_blocks(path)
+    transcripts = {it.stem: [] for it in path.parent.glob("*.script")}
     for mark, lines in blocks:
         kind, _, name = mark.partition(" ")
         if kind == "transcript":
@@ -117,10 +116,10 @@ def page_faults(page):
         elif kind != "timeline":
             yield f"a block is marked `{mark}`, and its lines aren't looked at"
     for name, lines in sorted(transcripts.items()):
-        file = re.escape(f"{page.parent.relative_to(TOP)}/{name}.")
+        file = re.escape(f"{path.parent.relative_to(TOP)}/{name}.")
         if not re.search(rf"`\./towerbench {file}(tower|bench)( --save [^`]*)?`", text):
             yield f"it doesn't say how to start {name}.tower or {name}.bench"
-        yield from transcript_faults(page, name, [it for line in lines for it in written_out(line)])
+        yield from transcript_faults(path, name, [it for line in lines for it in written_out(line)])
     shown = [
         it for lines in transcripts.values() for line in lines for it in {line, *written_out(line)}
     ]
@@ -133,9 +132,9 @@ def page_faults(page):
             yield f"no script has the command: {command}"
 
 
-def lesson_faults(page):
+def lesson_faults(path):
     """Yields what is wrong with how a lesson asks before it answers."""
-    text = page.read_text(encoding="ascii")
+    text = path.read_text(encoding="ascii")
     asked, fold, answered = text.partition(FOLD)
     if not fold or not answered.endswith(END_OF_FOLD):
         yield "its answers aren't folded away at its end"
@@ -145,7 +144,7 @@ def lesson_faults(page):
     exercises = EXERCISE.findall(asked)
     if len(exercises) < FEWEST_EXERCISES or exercises[-1] != OF_YOUR_OWN:
         yield f"its exercises are {exercises}"
-    if not (page.parent / "your-own.script").exists():
+    if not (path.parent / "your-own.script").exists():
         yield "its own exercise has no solution"
     if len(asked.splitlines()) > SCREEN[0]:
         yield f"it asks in {len(asked.splitlines())} lines, more than {SCREEN[0]}"
@@ -160,19 +159,19 @@ def lessons():
 
 
 def index_faults():
-    """Yields what is wrong with the page that lists the lessons."""
+    """Yields what is wrong with the text that lists the lessons."""
     if LINK.findall(INDEX.read_text(encoding="ascii")) != lessons():
         yield f"its links aren't, in order: {' '.join(lessons())}"
 
 
-def pages():
-    """Returns the paths of the pages, from the top."""
+def lesson_texts():
+    """Returns the paths of the texts, from the top."""
     found = [INDEX, *(LESSONS / it / "README.md" for it in lessons())]
     return [str(it.relative_to(TOP)) for it in found]
 
 
-def fault_of(path):
-    """Returns what is wrong with a page, or nothing."""
-    page = TOP / path
-    others = index_faults() if page == INDEX else lesson_faults(page)
-    return "; ".join([*page_faults(page), *others])
+def fault_of(name):
+    """Returns what is wrong with a text, whose path is given from the top, or nothing."""
+    path = TOP / name
+    others = index_faults() if path == INDEX else lesson_faults(path)
+    return "; ".join([*quote_faults(path), *others])

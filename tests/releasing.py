@@ -13,7 +13,8 @@ import shutil
 import subprocess
 import tempfile
 
-from tools import TOP, loaded, write_file, expect_equal
+from cases import expect_equal
+from scratch import TOP, loaded, write_text
 from trials import Test
 
 PAGE = """<html><script type="application/json" id="data">{}</script>
@@ -36,7 +37,7 @@ def page_of(module):
 
 
 def versions():
-    expect_equal("places of the version", loaded("tools/version.py").faults(), [])
+    expect_equal(loaded("tools/version.py").faults(), [], "places of the version")
 
 
 def other_order():
@@ -49,7 +50,7 @@ def other_order():
 
     tasks = {"low": task("low", [], 5), "over": task("over", ["low"], 5), "own": task("own", [], 1)}
     side.run_side_by_side(tasks, lambda *_: None)
-    expect_equal("the order", order, [("own", 1), ("low", 1), ("over", 1)])
+    expect_equal(order, [("own", 1), ("low", 1), ("over", 1)], "the order")
 
 
 def two_builds():
@@ -59,25 +60,25 @@ def two_builds():
     with tempfile.TemporaryDirectory() as temporary:
         one, other = f"{temporary}/one", f"{temporary}/other"
         for path in twice.products():
-            write_file(f"{one}/{path}", f"bytes of {path}\n")
-            write_file(f"{other}/{path}", f"bytes of {path}\n")
-        expect_equal("equal builds", twice.differences(one, other), [])
+            write_text(f"{one}/{path}", f"bytes of {path}\n")
+            write_text(f"{other}/{path}", f"bytes of {path}\n")
+        expect_equal(twice.differences(one, other), [], "equal builds")
         for path in twice.products():
-            write_file(f"{other}/{path}", f"bytes of {path}!")
+            write_text(f"{other}/{path}", f"bytes of {path}!")
             expect_equal(
-                "a changed byte", [it.split(":")[0] for it in twice.differences(one, other)], [path]
+                [it.split(":")[0] for it in twice.differences(one, other)], [path], "a changed byte"
             )
             with contextlib.redirect_stdout(io.StringIO()):
-                expect_equal("its status", twice.main(["--compare", one, other]), 1)
+                expect_equal(twice.main(["--compare", one, other]), 1, "its status")
             os.remove(f"{other}/{path}")
-            expect_equal("a file less", len(twice.differences(one, other)), 1)
-            write_file(f"{other}/{path}", f"bytes of {path}\n")
+            expect_equal(len(twice.differences(one, other)), 1, "a file less")
+            write_text(f"{other}/{path}", f"bytes of {path}\n")
 
 
 def put_release(releases, folder):
-    write_file(f"{folder}/towerbench.html", page_of(b"module"))
-    write_file(f"{folder}/towerbench", "program")
-    write_file(f"{folder}/SHA256SUMS", releases.sum_lines(releases.sums_of(folder)))
+    write_text(f"{folder}/towerbench.html", page_of(b"module"))
+    write_text(f"{folder}/towerbench", "program")
+    write_text(f"{folder}/SHA256SUMS", releases.sum_lines(releases.sums_of(folder)))
 
 
 def sums_of_a_release():
@@ -86,12 +87,12 @@ def sums_of_a_release():
         put_release(tried.releases, folder)
         lines = tried.releases.read("SHA256SUMS", folder).decode().splitlines()
         names = [it.split("  ")[1] for it in lines]
-        expect_equal("summed", names, ["program.wasm", "towerbench", "towerbench.html"])
+        expect_equal(names, ["program.wasm", "towerbench", "towerbench.html"], "summed")
         expect_equal(
-            "the module", tried.releases.modules_of(page_of(b"module")), {"program": b"module"}
+            tried.releases.modules_of(page_of(b"module")), {"program": b"module"}, "the module"
         )
-        expect_equal("its sums", tried.fault_of_sums(folder), None)
-        expect_equal("what it says", tried.fault_of_data(folder), None)
+        expect_equal(tried.fault_of_sums(folder), None, "its sums")
+        expect_equal(tried.fault_of_data(folder), None, "what it says")
         for name, text in (
             ("towerbench", "Program"),
             ("towerbench.html", page_of(b"Module")),
@@ -99,28 +100,28 @@ def sums_of_a_release():
             ("SHA256SUMS", f"{lines[0]}\n"),
         ):
             put_release(tried.releases, folder)
-            write_file(f"{folder}/{name}", text)
-            expect_equal(f"{name} is changed", bool(tried.fault_of_sums(folder)), True)
+            write_text(f"{folder}/{name}", text)
+            expect_equal(bool(tried.fault_of_sums(folder)), True, f"{name} is changed")
             os.remove(f"{folder}/{name}")
-        write_file(
+        write_text(
             f"{folder}/towerbench.html", page_of(b"").replace("0123456789ab", "0123 with changes")
         )
-        expect_equal("from changes", bool(tried.fault_of_data(folder)), True)
+        expect_equal(bool(tried.fault_of_data(folder)), True, "from changes")
 
 
 def program_of_another_system():
     tried = loaded("tools/handout")
     with tempfile.TemporaryDirectory() as temporary:
         tried.releases.FOLDER = f"{temporary}/release"
-        write_file(f"{temporary}/release/towerbench.html", page_of(b"module"))
-        write_file(f"{temporary}/release/towerbench", "of another system\n", 0o755)
+        write_text(f"{temporary}/release/towerbench.html", page_of(b"module"))
+        write_text(f"{temporary}/release/towerbench", "of another system\n", 0o755)
         os.makedirs(f"{temporary}/folder")
         with contextlib.redirect_stderr(io.StringIO()) as said:
             needs = tried.put_released(f"{temporary}/folder", temporary)["needs"]
         expect_equal(
-            "left out", (needs, os.listdir(f"{temporary}/folder")), ("", ["towerbench.html"])
+            (needs, os.listdir(f"{temporary}/folder")), ("", ["towerbench.html"]), "left out"
         )
-        expect_equal("said", "don't run here" in said.getvalue(), True)
+        expect_equal("don't run here" in said.getvalue(), True, "said")
 
 
 class Repository:
@@ -129,12 +130,12 @@ class Repository:
     def __init__(self, top):
         self.top = top
         for path, text in loaded("tools/version.py").PLACES.items():
-            write_file(f"{top}/{path}", text.format("1.2.2"))
-        write_file(f"{top}/VERSION", "1.2.2\n")
-        write_file(f"{top}/CHANGELOG.md", "# Changes\n\n## 1.2.2\n")
-        write_file(f"{top}/.ci/turn", "7\n")
-        write_file(f"{top}/page", page_of(b"module"))
-        write_file(f"{top}/tools/twice", BUILDS, 0o755)
+            write_text(f"{top}/{path}", text.format("1.2.2"))
+        write_text(f"{top}/VERSION", "1.2.2\n")
+        write_text(f"{top}/CHANGELOG.md", "# Changes\n\n## 1.2.2\n")
+        write_text(f"{top}/.ci/turn", "7\n")
+        write_text(f"{top}/page", page_of(b"module"))
+        write_text(f"{top}/tools/twice", BUILDS, 0o755)
         for it in TOOLS:
             shutil.copy(f"{TOP}/tools/{it}", f"{top}/tools")
         self.git("init", "-q", "-b", "main")
@@ -160,29 +161,29 @@ class Repository:
             [f"{self.top}/tools/release", "1.2.3"], capture_output=True, check=False
         )
         said = done.stderr.decode().removeprefix("release: ")
-        expect_equal(wanted, (done.returncode, said[: len(wanted)]), (1, wanted))
+        expect_equal((done.returncode, said[: len(wanted)]), (1, wanted), wanted)
 
 
 def release_in_order():
     with tempfile.TemporaryDirectory() as top:
         its = Repository(top)
-        write_file(f"{top}/page", page_of(b"changed"))
+        write_text(f"{top}/page", page_of(b"changed"))
         its.refuses("something isn't committed")
         its.git("checkout", "-q", "page")
         its.refuses("CHANGELOG.md has to begin with 1.2.3")
-        write_file(f"{top}/CHANGELOG.md", "# Changes\n\n## 1.2.3\n\n## 1.2.2\n")
+        write_text(f"{top}/CHANGELOG.md", "# Changes\n\n## 1.2.3\n\n## 1.2.2\n")
         its.commit_all("Changes")
         its.refuses("the gate hasn't passed here")
-        expect_equal("versions", (its.text("VERSION"), its.text(".ci/turn")), ("1.2.3\n", "8\n"))
-        expect_equal("committed", its.git("log", "-1", "--format=%s"), "Version 1.2.3")
+        expect_equal((its.text("VERSION"), its.text(".ci/turn")), ("1.2.3\n", "8\n"), "versions")
+        expect_equal(its.git("log", "-1", "--format=%s"), "Version 1.2.3", "committed")
         its.git("update-ref", "refs/gate/passed", "HEAD~1")
         its.refuses("the gate passed on")
         its.git("update-ref", "refs/gate/passed", "HEAD")
         subprocess.run([f"{top}/tools/release", "1.2.3"], check=True)
         files = ["release/SHA256SUMS", "release/towerbench", "release/towerbench.html"]
         shown = its.git("show", "--name-only", "--format=%s").split()
-        expect_equal("one commit", shown, ["Release", "1.2.3", *files])
-        expect_equal("nothing is left", its.git("status", "--porcelain"), "")
+        expect_equal(shown, ["Release", "1.2.3", *files], "one commit")
+        expect_equal(its.git("status", "--porcelain"), "", "nothing is left")
         its.refuses("the release of 1.2.3 is there already")
 
 

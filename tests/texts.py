@@ -1,6 +1,6 @@
 """Texts that the guide names and no expected output has.
 
-The guide's pages write what the program prints between backticks: an answer begins with `0: `, a
+The guide's files write what the program prints between backticks: an answer begins with `0: `, a
 line of a page with two spaces, a frame with the name of a layer; a break is in the table of breaks,
 and refusals and faults begin their rows with a number. A word of capitals is any word there, P in
 `pP` any number, and A one of the four bit actions. Each of these texts has to be in some expected
@@ -39,15 +39,15 @@ def pattern_of(text):
     return re.compile(rf"^{margin}{body}(?: |$)", re.M)
 
 
-def texts_of(page):
-    """Returns the texts that a page of the guide says are printed."""
-    spans = [it.group(1) for it in SPAN.finditer(page)]
+def texts_of(guide):
+    """Returns the texts that a file of the guide, given as one text, says are printed."""
+    spans = [it.group(1) for it in SPAN.finditer(guide)]
     found = [
         it
         for it in spans
         if it.startswith(("  ", "0: ")) or FRAME.fullmatch(it) or NUMBERED.fullmatch(it)
     ]
-    breaks = BREAKS.search(page)
+    breaks = BREAKS.search(guide)
     rows = breaks.group().splitlines()[2:] if breaks else []
     found += [f"  {SPAN.search(it).group(1)}" for it in rows if SPAN.search(it)]
     return [it for it in found if it != MEMORY]
@@ -71,16 +71,16 @@ def outputs():
     return "\n".join(found)
 
 
-def pages():
+def guide_files():
     return sorted(glob.glob(GUIDE))
 
 
-def fault_of(page, expected):
-    """Returns which texts of a page of the guide are in no expected output, or None."""
-    lost = [it for it in dict.fromkeys(texts_of(read(page))) if not pattern_of(it).search(expected)]
+def fault_of(path, expected):
+    """Returns which texts of a file of the guide are in no expected output, or None."""
+    lost = [it for it in dict.fromkeys(texts_of(read(path))) if not pattern_of(it).search(expected)]
     return f"in no expected output: {'; '.join(repr(it) for it in lost)}" if lost else None
 
 
 if __name__ == "__main__":
-    for it in pages():
+    for it in guide_files():
         print(f"{it}: {len(texts_of(read(it)))} texts; {fault_of(it, outputs())}")

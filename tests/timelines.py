@@ -1,4 +1,4 @@
-"""Time lines on the lessons' pages: each shows what its script leaves.
+"""Time lines in the lessons' texts: each shows what its script leaves.
 
 A block that begins with ```timeline NAME, or ```timeline NAME BRANCH, has rows over the numbers of
 the steps of a branch, `main` if none is named, at the end of NAME.script on NAME.tower or
@@ -193,7 +193,7 @@ def fault_of_block(program, folder, words, lines):
 
 
 def fault_of(path, program):
-    """Returns what is wrong with the time lines of a page, or nothing."""
+    """Returns what is wrong with the time lines of a text, or nothing."""
     folder = os.path.dirname(path)
     text, blocks = quotes.text_and_marked_blocks(quotes.TOP / path)
     timelines = [

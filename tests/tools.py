@@ -5,8 +5,6 @@ Each tool is loaded for each test by itself, and works on a repository of three 
 above `low`, `tool` is a program over both. Expected values are written by hand.
 """
 import contextlib
-import importlib.machinery
-import importlib.util
 import io
 import itertools
 import os
@@ -19,9 +17,10 @@ import types
 import cases
 import documents
 import wrong_bodies
+from cases import expect_equal
+from scratch import TOP, loaded, write_text
 from trials import Test
 
-TOP = os.path.dirname(os.path.dirname(os.path.realpath(__file__)))
 LISTED = "# the crates\nlow: std\nover: low std  # above it\ntool: low, over\n"
 SOURCES = {
     "low/src/lib.rt": 7,
@@ -34,38 +33,13 @@ SOURCES = {
 ENDED = "checked: all\nrun=ended status={} steps=1\n"
 
 
-def expect_equal(what, got, wanted):
-    if got != wanted:
-        raise cases.Failure(f"{what}: {got!r}, and {wanted!r} is right")
-
-
-def loaded(path):
-    """Returns a tool as a module of its own."""
-    loader = importlib.machinery.SourceFileLoader(
-        os.path.basename(path).partition(".")[0], f"{TOP}/{path}"
-    )
-    module = importlib.util.module_from_spec(importlib.util.spec_from_loader(loader.name, loader))
-    with_tools = f"{TOP}/tools"
-    if with_tools not in sys.path:
-        sys.path.append(with_tools)
-    loader.exec_module(module)
-    return module
-
-
-def write_file(path, text, mode=0o644):
-    os.makedirs(os.path.dirname(path), exist_ok=True)
-    with open(path, "w", encoding="utf-8") as file:
-        file.write(text)
-    os.chmod(path, mode)
-
-
 @contextlib.contextmanager
 def repository():
     """Makes a scratch folder with three crates; its path."""
     with tempfile.TemporaryDirectory() as top:
-        write_file(f"{top}/crates.txt", LISTED)
+        write_text(f"{top}/crates.txt", LISTED)
         for path, lines in SOURCES.items():
-            write_file(f"{top}/crates/{path}", "line\n" * lines)
+            write_text(f"{top}/crates/{path}", "line\n" * lines)
         yield top
 
 
@@ -79,29 +53,28 @@ def crates_and_lines():
     with repository() as top:
         side = side_at(top)
         crates = side.listed_crates()
-        expect_equal("crates", crates, {"low": [], "over": ["low"], "tool": ["low", "over"]})
-        expect_equal("below tool", side.all_below(crates, "tool"), ["low", "over"])
-        expect_equal("lines of low", side.lines_in("low"), 21)
+        expect_equal(crates, {"low": [], "over": ["low"], "tool": ["low", "over"]}, "crates")
+        expect_equal(side.all_below(crates, "tool"), ["low", "over"], "below tool")
+        expect_equal(side.lines_in("low"), 21, "lines of low")
         # Its own 5, and a seventh of the 21 below
-        expect_equal("lines of the check of over", side.lines_of_check(crates, "over"), 8)
-        expect_equal("programs", [it for it in crates if side.is_program(it)], ["tool"])
+        expect_equal(side.lines_of_check(crates, "over"), 8, "lines of the check of over")
+        expect_equal([it for it in crates if side.is_program(it)], ["tool"], "programs")
 
 
 def tree_of_a_crate():
     with repository() as top:
         side = side_at(top)
-        write_file(f"{top}/crates/low/out/rlib/low.rlib", "built")
-        write_file(f"{top}/crates/over/out/before", "kept")
+        write_text(f"{top}/crates/low/out/rlib/low.rlib", "built")
+        write_text(f"{top}/crates/over/out/before", "kept")
         with side.Tree(side.listed_crates(), "over") as tree:
             found = sorted(
                 os.path.relpath(f"{at}/{it}", tree.top)
                 for at, _, files in os.walk(tree.top)
                 for it in files
             )
-            write_file(f"{tree.folder}/out/after", "made")
+            write_text(f"{tree.folder}/out/after", "made")
             tree.put_back()
         expect_equal(
-            "files of the tree",
             found,
             [
                 "crates.txt",
@@ -112,9 +85,10 @@ def tree_of_a_crate():
                 "crates/over/specs/Over.antt",
                 "crates/over/src/lib.rt",
             ],
+            "files of the tree",
         )
-        expect_equal("products", sorted(os.listdir(f"{top}/crates/over/out")), ["after", "before"])
-        expect_equal("the tree is left", os.path.exists(tree.top), False)
+        expect_equal(sorted(os.listdir(f"{top}/crates/over/out")), ["after", "before"], "products")
+        expect_equal(os.path.exists(tree.top), False, "the tree is left")
 
 
 def ran_side_by_side(failing=None):
@@ -133,18 +107,18 @@ def ran_side_by_side(failing=None):
         "then": task("then", ["first"], 5),
         "last": task("last", ["then"], 1),
     }
-    expect_equal("chains", side.chains(tasks), {"short": 3, "first": 7, "then": 6, "last": 1})
+    expect_equal(side.chains(tasks), {"short": 3, "first": 7, "then": 6, "last": 1}, "chains")
     return side.run_side_by_side(tasks, lambda *_: None), order
 
 
 def order_of_tasks():
     expect_equal(
-        "all tasks",
         ran_side_by_side(),
         (True, [("first", 1), ("then", 1), ("short", 1), ("last", 1)]),
+        "all tasks",
     )
     expect_equal(
-        "a task that fails", ran_side_by_side("then"), (False, [("first", 1), ("then", 1)])
+        ran_side_by_side("then"), (False, [("first", 1), ("then", 1)]), "a task that fails"
     )
 
 
@@ -167,18 +141,18 @@ logic=not-proved
 def shown_of(log):
     """Returns the lines that are shown of a failed proof with this log, after the first."""
     with repository() as top:
-        write_file(f"{top}/prove.log", log)
+        write_text(f"{top}/prove.log", log)
         return side_at(top).said_of_failure(f"{top}/prove.log", "low")[1:]
 
 
 def faults_of_failures():
     said = UNPROVED.splitlines()
-    expect_equal("what isn't proved", shown_of(UNPROVED), [said[it] for it in (2, 4, 7, 9)])
+    expect_equal(shown_of(UNPROVED), [said[it] for it in (2, 4, 7, 9)], "what isn't proved")
     lost = "src/lib.rt:11:11: error[unknown-name]: cannot find value `y` in this scope"
-    expect_equal("what can't be read", shown_of(f"rt: chose\n{lost}\nstatements\n"), [lost])
-    expect_equal("no such line", shown_of("killed\n" * 30), ["killed"] * 20)
+    expect_equal(shown_of(f"rt: chose\n{lost}\nstatements\n"), [lost], "what can't be read")
+    expect_equal(shown_of("killed\n" * 30), ["killed"] * 20, "no such line")
     many = shown_of(f"{lost}\n" * 21)
-    expect_equal("more than are shown", many, [lost] * 20 + ["(and 1 more line of faults)"])
+    expect_equal(many, [lost] * 20 + ["(and 1 more line of faults)"], "more than are shown")
 
 
 def statements_at(top):
@@ -190,7 +164,7 @@ def statements_at(top):
 
     def call(words, folder, _):
         given.append((os.path.relpath(folder, top), words))
-        write_file(os.path.join(folder, words[words.index("-o") + 1]), "made")
+        write_text(os.path.join(folder, words[words.index("-o") + 1]), "made")
         return True
 
     statements.side.PROCESSES.call = call
@@ -203,7 +177,6 @@ def words_of_a_library():
         crates = statements.side.listed_crates()
         words = " ".join(statements.steps_of(crates, "over", 2)[0]).replace(top, "TOP")
         expect_equal(
-            "words",
             words,
             (
                 "/kit/bin/rattle build --crate-name over src/lib.rt --extern std=/kit/rlibs/std.rlib --extern std=/kit/rlibs/std.rlib"
@@ -211,6 +184,7 @@ def words_of_a_library():
                 " -L dependency=TOP/crates/low/out/statements --antt-project /kit/rattle/logic/antt-project.json"
                 " --logic-built /kit/logic_built --links over= --jobs 2 --statements -o TOP/crates/over/out/statements/over.rlib"
             ),
+            "words",
         )
 
 
@@ -219,18 +193,18 @@ def built_once():
         statements, given = statements_at(top)
         crates = statements.side.listed_crates()
         made = [statements.prove(crates, it, 1, 0) for it in ("low", "low", "over", "tool")]
-        expect_equal("proved", made, [True] * 4)
+        expect_equal(made, [True] * 4, "proved")
         # A program is compiled, and then linked
         expect_equal(
-            "built",
             [folder for folder, _ in given],
             ["crates/low", "crates/over", "crates/tool", "crates/tool"],
+            "built",
         )
         expect_equal(
-            "the program is where rt builds it", os.path.exists(f"{top}/crates/tool/out/tool"), True
+            os.path.exists(f"{top}/crates/tool/out/tool"), True, "the program is where rt builds it"
         )
-        write_file(f"{top}/crates/over/specs/Over.antt", "another line\n")
-        expect_equal("current", [it for it in crates if statements.is_current(crates, it)], ["low"])
+        write_text(f"{top}/crates/over/specs/Over.antt", "another line\n")
+        expect_equal([it for it in crates if statements.is_current(crates, it)], ["low"], "current")
 
 
 def sums_after_a_new_layer():
@@ -243,7 +217,7 @@ def sums_after_a_new_layer():
             if os.path.isdir(f"{TOP}/crates/{name}/{part}"):
                 shutil.copytree(f"{TOP}/crates/{name}/{part}", f"{top}/crates/{name}/{part}")
         before = sums_of(statements)
-        write_file(
+        write_text(
             f"{top}/crates.txt",
             f"{side.text_of(f'{top}/crates.txt')}another: layers frames safe_bit\n",
         )
@@ -251,20 +225,20 @@ def sums_after_a_new_layer():
             for path in [f"{at}/{file}" for file in files]:
                 text = side.text_of(path).replace("own_register", "another")
                 text = text.replace("LayerName(b't', b'w', b'o')", "LayerName(b'a', b'n', b'o')")
-                write_file(path.replace("/own_register/", "/another/"), text)
+                write_text(path.replace("/own_register/", "/another/"), text)
         after = sums_of(statements)
         expect_equal(
-            "to be proved", [it for it in after if before.get(it) != after[it]], ["another"]
+            [it for it in after if before.get(it) != after[it]], ["another"], "to be proved"
         )
         expect_equal(
-            "its name",
             "b'a', b'n', b'o'" in side.text_of(f"{top}/crates/another/src/task.rt"),
             True,
+            "its name",
         )
-        write_file(f"{top}/crates/layers/specs/Added.antt", "-- a definition\n")
+        write_text(f"{top}/crates/layers/specs/Added.antt", "-- a definition\n")
         crates = side.listed_crates()
         changed = [statements.crate_sum(crates, it) != after[it] for it in ("another", "frames")]
-        expect_equal("proved again if layers changes: another, frames", changed, [True, False])
+        expect_equal(changed, [True, False], "proved again if layers changes: another, frames")
 
 
 def sums_of(statements):
@@ -283,20 +257,20 @@ def words_of_first_run():
         (["--save", "s"], None),
         (["--", "-a"], 1),
     ):
-        expect_equal(f"file of {words}", first.place_of_file(words), place)
+        expect_equal(first.place_of_file(words), place, f"file of {words}")
     for words, left in (
         (["a", "--save", "s"], ["a"]),
         (["--save=s", "a"], ["a"]),
         (["--save"], ["--save"]),
         (["--", "--save", "s"], ["--", "--save", "s"]),
     ):
-        expect_equal(f"{words} without its save", first.without_save(words), left)
+        expect_equal(first.without_save(words), left, f"{words} without its save")
     twice = ["--save", "s", "--save=t"]
-    expect_equal("two saves", first.without_save(twice), twice)
+    expect_equal(first.without_save(twice), twice, "two saves")
     with tempfile.TemporaryDirectory() as temporary:
         first.keep(io.BytesIO(b"abcdef"), f"{temporary}/kept", 3)
-        expect_equal("kept of a long stream", cases.read(f"{temporary}/kept"), b"abcd")
-        expect_equal("a folder is kept", first.keep_file(temporary, f"{temporary}/none"), False)
+        expect_equal(cases.read(f"{temporary}/kept"), b"abcd", "kept of a long stream")
+        expect_equal(first.keep_file(temporary, f"{temporary}/none"), False, "a folder is kept")
 
 
 def first_run(early, program, words=(), has_rt=True):
@@ -305,16 +279,16 @@ def first_run(early, program, words=(), has_rt=True):
     with repository() as top:
         os.makedirs(f"{top}/crates/program")
         for it in ("first_run", "side_by_side.py"):
-            write_file(f"{top}/tools/{it}", "")
+            write_text(f"{top}/tools/{it}", "")
             shutil.copy(f"{TOP}/tools/{it}", f"{top}/tools/{it}")
-        write_file(f"{top}/built", f"#!/bin/sh\n{program}\n", 0o755)
-        write_file(
+        write_text(f"{top}/built", f"#!/bin/sh\n{program}\n", 0o755)
+        write_text(
             f"{top}/tools/program",
             "#!/bin/sh\n" + (f"echo '{top}/built'\n" if program else "exit 1\n"),
             0o755,
         )
         if has_rt:
-            write_file(f"{top}/bin/rt", f"#!/bin/sh\n{early}\n", 0o755)
+            write_text(f"{top}/bin/rt", f"#!/bin/sh\n{early}\n", 0o755)
         path = {"PATH": f"{top}/bin:/usr/bin:/bin" if has_rt else f"{top}/bin"}
         ran = subprocess.run(
             [sys.executable, f"{top}/tools/first_run", *words],
@@ -330,20 +304,20 @@ def answers_twice():
     early = "cat; printf '%s' '" + ENDED.format(0) + "' >&2"
     status, output, said = first_run(early, "cat")
     expect_equal(
-        "the same answers",
         (status, output, said[-2]),
         (0, "0 join\n", "towerbench: proved, and the proved program answers the same"),
+        "the same answers",
     )
     status, output, said = first_run(early, "cat; echo more; exit 1")
     expect_equal(
-        "other answers",
         (status, output, said[-3:]),
         (3, "0 join\n", ["+more", "towerbench: the status was 0, and is 1", ""]),
+        "other answers",
     )
     status, output, said = first_run("echo stuck >&2", "cat; exit 1")
-    expect_equal("no unproved answers", (status, output, "stuck" in said), (1, "0 join\n", True))
-    expect_equal("no proof", first_run(early, None)[:2], (1, "0 join\n"))
-    expect_equal("no rt", first_run(early, "cat", has_rt=False)[:2], (1, ""))
+    expect_equal((status, output, "stuck" in said), (1, "0 join\n", True), "no unproved answers")
+    expect_equal(first_run(early, None)[:2], (1, "0 join\n"), "no proof")
+    expect_equal(first_run(early, "cat", has_rt=False)[:2], (1, ""), "no rt")
 
 
 def answers_and_saves():
@@ -355,10 +329,10 @@ def answers_and_saves():
         "towerbench: save failed",
         "",
     ]
-    expect_equal("a save that fails", (status, output, said[-3:]), (1, "0 join\ntry --\n", wanted))
+    expect_equal((status, output, said[-3:]), (1, "0 join\ntry --\n", wanted), "a save that fails")
 
 
-def table_of_shares():
+def table_of_processor_times():
     parts = {
         1: ("low", "proof", ""),
         2: ("low", "wrong bodies", "lost"),
@@ -368,8 +342,7 @@ def table_of_shares():
     }
     crates = {"low": [], "another": ["low"], "over": ["low"]}
     expect_equal(
-        "table",
-        loaded(".ci/shares").written(parts, {1: 120, 2: 24, 3: 60, 4: 600, 5: 6}, crates),
+        loaded(".ci/processor_times").written(parts, {1: 120, 2: 24, 3: 60, 4: 600, 5: 6}, crates),
         (
             "processor minutes                proof         tests  wrong bodies    in all\n"
             "low                                2.0           0.0           0.5       2.5\n"
@@ -379,11 +352,12 @@ def table_of_shares():
             "longest chain of proofs: 3.0, low over\n"
             "   0.4 low/lost\n"
         ),
+        "table",
     )
 
 
 def edits_of_copies():
-    tool = loaded(".ci/shares")
+    tool = loaded(".ci/processor_times")
     with tempfile.TemporaryDirectory() as temporary:
         for folder, text in (("crate", "is well\n"), ("other", "is lost\n"), ("same", "is well\n")):
             os.makedirs(f"{temporary}/{folder}/src")
@@ -395,15 +369,15 @@ def edits_of_copies():
             tool.is_made_by(f"{temporary}/lost.edit", f"{temporary}/crate", f"{temporary}/{it}")
             for it in ("other", "same")
         ]
-        expect_equal("copies that an edit made", found, [True, False])
+        expect_equal(found, [True, False], "copies that an edit made")
 
 
-def shares_of(command):
-    """Returns the status of a command under .ci/shares, and the lines of its table, if there is
+def processor_times_of(command):
+    """Returns the status of a command under .ci/processor_times, and the lines of its table, if there is
     one."""
     with tempfile.TemporaryDirectory() as temporary:
         status = subprocess.run(
-            [f"{TOP}/.ci/shares", f"{temporary}/table", "bash", "-c", command], check=False
+            [f"{TOP}/.ci/processor_times", f"{temporary}/table", "bash", "-c", command], check=False
         ).returncode
         return (
             status,
@@ -413,27 +387,27 @@ def shares_of(command):
         )
 
 
-def shares_of_commands():
-    expect_equal("a command that ends", shares_of("exit 7"), (7, []))
-    expect_equal("a command that is killed", shares_of("kill -9 $$"), (137, []))
+def processor_times_of_commands():
+    expect_equal(processor_times_of("exit 7"), (7, []), "a command that ends")
+    expect_equal(processor_times_of("kill -9 $$"), (137, []), "a command that is killed")
     # Once a second it looks at what the command has started
     prover = (
         f"exec -a rattle '{sys.executable}' -c 'import time; time.sleep(3)' --crate-name low --test"
     )
-    status, lines = shares_of(f"({prover}); exit 0")
+    status, lines = processor_times_of(f"({prover}); exit 0")
     expect_equal(
-        "the prover's crates", (status, [it.split()[0] for it in lines[1:-3]]), (0, ["low"])
+        (status, [it.split()[0] for it in lines[1:-3]]), (0, ["low"]), "the prover's crates"
     )
     expect_equal(
-        "the prover's ratio",
         lines[-2:-1],
         ["(tests + wrong bodies) over proofs: no proofs in this run"],
+        "the prover's ratio",
     )
     after = lambda first: subprocess.run(
-        [f"{TOP}/.ci/shares", "/dev/null", *first, "--", "false"], check=False
+        [f"{TOP}/.ci/processor_times", "/dev/null", *first, "--", "false"], check=False
     ).returncode
     expect_equal(
-        "a command after another", (after(["true"]), after(["bash", "-c", "exit 7"])), (1, 7)
+        (after(["true"]), after(["bash", "-c", "exit 7"])), (1, 7), "a command after another"
     )
 
 
@@ -465,20 +439,20 @@ def places_of_changes():
     at = lambda text, file="src/store/cell.rt": wrong_bodies.module_and_function(
         file, SOURCE, SOURCE.index(text)
     )
-    expect_equal("a method", at("self.value\n"), ("store::cell", "Cell::value"))
-    expect_equal("a method of an impl of a trait", at("*self"), ("store::cell", "CellModel::clone"))
-    expect_equal("a constant", at("u32 = 4"), ("store::cell", ""))
-    expect_equal("a function", at("MOST\n"), ("store::cell", "store::cell::most"))
-    expect_equal("a function of a library's root", at("MOST\n", "src/lib.rt"), ("", "most"))
+    expect_equal(at("self.value\n"), ("store::cell", "Cell::value"), "a method")
+    expect_equal(at("*self"), ("store::cell", "CellModel::clone"), "a method of an impl of a trait")
+    expect_equal(at("u32 = 4"), ("store::cell", ""), "a constant")
+    expect_equal(at("MOST\n"), ("store::cell", "store::cell::most"), "a function")
+    expect_equal(at("MOST\n", "src/lib.rt"), ("", "most"), "a function of a library's root")
 
 
 def selections_of_edits():
     with tempfile.TemporaryDirectory() as temporary:
-        write_file(f"{temporary}/src/cell.rt", SOURCE)
-        write_file(f"{temporary}/src/lib.rt", "pub mod cell;\n")
+        write_text(f"{temporary}/src/cell.rt", SOURCE)
+        write_text(f"{temporary}/src/lib.rt", "pub mod cell;\n")
 
         def of(*lines):
-            write_file(f"{temporary}/edit", "\n".join(lines) + "\n")
+            write_text(f"{temporary}/edit", "\n".join(lines) + "\n")
             return wrong_bodies.selections(f"{temporary}/edit", temporary)
 
         method, value = ["file: src/cell.rt", "old:         self.value", "new:         0"], [
@@ -486,23 +460,23 @@ def selections_of_edits():
             "new:     self",
         ]
         expect_equal(
-            "a method, its module, the crate", of(*method), [["Cell::value"], ["cell"], []]
+            of(*method), [["Cell::value"], ["cell"], []], "a method, its module, the crate"
         )
         expect_equal(
-            "two functions", of(*method, *value), [["Cell::value", "cell::most"], ["cell"], []]
+            of(*method, *value), [["Cell::value", "cell::most"], ["cell"], []], "two functions"
         )
         expect_equal(
-            "a method of a trait",
             of("file: src/cell.rt", "old:         *self", "new:         Cell { value: 0 }"),
             [["CellModel::clone"], ["cell"], []],
+            "a method of a trait",
         )
         expect_equal(
-            "no function", of("file: src/lib.rt", "old: pub mod cell;", "new: mod cell;"), [[]]
+            of("file: src/lib.rt", "old: pub mod cell;", "new: mod cell;"), [[]], "no function"
         )
         definition = ["file: specs/Cells.antt", "old: one", "new: two"]
-        write_file(f"{temporary}/specs/Cells.antt", "one\n")
-        expect_equal("a definition", of(*definition), [[]])
-        expect_equal("what it refuses", of("only: laws::safe", *definition), [["laws::safe"], []])
+        write_text(f"{temporary}/specs/Cells.antt", "one\n")
+        expect_equal(of(*definition), [[]], "a definition")
+        expect_equal(of("only: laws::safe", *definition), [["laws::safe"], []], "what it refuses")
 
 
 def checks_that_refuse():
@@ -511,12 +485,12 @@ def checks_that_refuse():
     of = lambda status, *lines: wrong_bodies.line_that_refuses(
         rt, types.SimpleNamespace(returncode=status, stdout="\n".join(lines) + "\n"), {}
     )
-    expect_equal("some functions", of(1, said, "only=2 proved=1"), said)
-    expect_equal("a crate", of(1, said, "logic=not-proved functions=2"), said)
-    expect_equal("all proved", of(0, "only=2 proved=2"), None)
-    expect_equal("not compiled", of(1, "error[type-mismatch]: src/cell.rt:12:5"), None)
+    expect_equal(of(1, said, "only=2 proved=1"), said, "some functions")
+    expect_equal(of(1, said, "logic=not-proved functions=2"), said, "a crate")
+    expect_equal(of(0, "only=2 proved=2"), None, "all proved")
+    expect_equal(of(1, "error[type-mismatch]: src/cell.rt:12:5"), None, "not compiled")
     expect_equal(
-        "not read", of(1, "src/cell.rt:12:5: error: `x` is not in scope", "only=2 proved=1"), None
+        of(1, "src/cell.rt:12:5: error: `x` is not in scope", "only=2 proved=1"), None, "not read"
     )
 
 
@@ -528,12 +502,12 @@ def names_of_impls():
         ("Named for R", "AnyNamed"),
         ("Register: Behaves + Copy", "Register"),
     ):
-        expect_equal(head, wrong_bodies.name_of_impl(head), name)
+        expect_equal(wrong_bodies.name_of_impl(head), name, head)
 
 
 def bodies_of_edits():
     with tempfile.TemporaryDirectory() as temporary:
-        write_file(f"{temporary}/src/cell.rt", SOURCE)
+        write_text(f"{temporary}/src/cell.rt", SOURCE)
 
         def of(*pairs):
             text = SOURCE
@@ -542,11 +516,11 @@ def bodies_of_edits():
             return [it.name for it in wrong_bodies.bodies_of({"src/cell.rt": text}, temporary)]
 
         body = ("        self.value\n", "        0\n")
-        expect_equal("a body", of(body), ["Cell::value"])
+        expect_equal(of(body), ["Cell::value"], "a body")
         expect_equal(
-            "two",
             of(("  MOST", "  3"), ("*self", "Cell { value: 0 }")),
             ["CellModel::clone", "cell::most"],
+            "two",
         )
         for what, *pair in (
             ("a contract", "result ≡", "0 ≡"),
@@ -555,7 +529,7 @@ def bodies_of_edits():
             ("an item in a body", "    MOST\n", "    const LEAST: u32 = 3; LEAST\n"),
             ("a comment", "//! Cells", "//! Bits"),
         ):
-            expect_equal(f"{what} and a body", of(body, pair), [])
+            expect_equal(of(body, pair), [], f"{what} and a body")
 
 
 # What a check says of the functions of SOURCE, each edited.
@@ -593,10 +567,10 @@ def tried_with(said):
     and how many edits were in the copy."""
     rt, asked = checks_of_cells(said)
     with tempfile.TemporaryDirectory() as temporary:
-        write_file(f"{temporary}/src/cell.rt", SOURCE)
+        write_text(f"{temporary}/src/cell.rt", SOURCE)
         edits = {"clone": "        *self", "most": "    MOST", "value": "        self.value"}
         for name, old in edits.items():
-            write_file(f"{temporary}/{name}", f"file: src/cell.rt\nold: {old}\nnew: edited\n")
+            write_text(f"{temporary}/{name}", f"file: src/cell.rt\nold: {old}\nnew: edited\n")
         crate = types.SimpleNamespace(folder=temporary)
         paths = [f"{temporary}/{it}" for it in edits]
         results = wrong_bodies.all_tried(rt, crate, paths, temporary)
@@ -610,7 +584,6 @@ def edits_tried_together():
     clone = "./proofs/cell/CellModel/clone/Answers.antt:4:1: error: expected type `a`"
     all_three = ["CellModel::clone", "cell::most", "Cell::value"]
     expect_equal(
-        "all are refused",
         tried_with(
             {
                 "Cell::value": value_is_lost,
@@ -622,10 +595,10 @@ def edits_tried_together():
             [f"refused: {it}" for it in (clone, f"note: {CELL.format('20:5')}", value)],
             [(all_three, 3)],
         ),
+        "all are refused",
     )
     is_with_value = lambda names: UNPROVED_CALL if "Cell::value" in names else ""
     expect_equal(
-        "one is proved, and one calls another",
         tried_with(
             {
                 "Cell::value": value_is_lost,
@@ -646,10 +619,10 @@ def edits_tried_together():
                 ([], 1),
             ],
         ),
+        "one is proved, and one calls another",
     )
     unread = "src/cell.rt:20:5: error: `x` is not in scope"
     expect_equal(
-        "one can't be read",
         tried_with(
             {
                 "Cell::value": value_is_lost,
@@ -658,23 +631,24 @@ def edits_tried_together():
             }
         )[0],
         [f"refused: {clone}", "NOT REFUSED", f"refused: {value}"],
+        "one can't be read",
     )
 
 
 def edits_of_callers():
     twice = "\nfn twice() -> u32 {\n    once()\n}\n\nfn once() -> u32 {\n    most()\n}\n"
     with tempfile.TemporaryDirectory() as temporary:
-        write_file(f"{temporary}/src/cell.rt", SOURCE + twice)
+        write_text(f"{temporary}/src/cell.rt", SOURCE + twice)
         edits = {"most": "    MOST", "twice": "    once()", "value": "        self.value"}
         for name, old in edits.items():
-            write_file(f"{temporary}/{name}", f"file: src/cell.rt\nold: {old}\nnew: edited\n")
+            write_text(f"{temporary}/{name}", f"file: src/cell.rt\nold: {old}\nnew: edited\n")
         rt, crate = checks_of_cells({})[0], types.SimpleNamespace(folder=temporary)
         changes = wrong_bodies.body_changes(rt, crate, [f"{temporary}/{it}" for it in edits])
         found = [
             [os.path.basename(it.edit) for it in batch]
             for batch in wrong_bodies.batches_of(changes)
         ]
-        expect_equal("a caller apart", found, [["most", "value"], ["twice"]])
+        expect_equal(found, [["most", "value"], ["twice"]], "a caller apart")
 
 
 def faults_of_other_functions():
@@ -683,19 +657,19 @@ def faults_of_other_functions():
         [fault, *[f"fn cells::cell::{it}" for it in said]], [fault], body
     )
     own, other = f"note: {CELL.format('11:9')}", f"note: {CELL.format('14:1')}"
-    expect_equal("its own fault", of(own, "Cell::value: not proved"), own)
-    expect_equal("another's fault", of(other, "Cell::value: not proved"), None)
+    expect_equal(of(own, "Cell::value: not proved"), own, "its own fault")
+    expect_equal(of(other, "Cell::value: not proved"), None, "another's fault")
     answer = "./proofs/cell/Cell/most/Answers.antt:4:1: error: expected type `a`"
-    expect_equal("a fault in another's proof", of(answer, "Cell::value: not proved"), None)
+    expect_equal(of(answer, "Cell::value: not proved"), None, "a fault in another's proof")
     lost = "./proofs/cell/Cell/value/Answers.antt:4:1: error: `c` has no field `x`"
-    expect_equal("a name that is gone", of(lost, "Cell::value: not proved"), None)
-    expect_equal("proved", of(own, "Cell::value: proved"), None)
+    expect_equal(of(lost, "Cell::value: not proved"), None, "a name that is gone")
+    expect_equal(of(own, "Cell::value: proved"), None, "proved")
     expect_equal(
-        "a callee", of(own, "Cell::value: not proved; it calls `cells::f`, which is not"), None
+        of(own, "Cell::value: not proved; it calls `cells::f`, which is not"), None, "a callee"
     )
-    expect_equal("not named", of(own, "Cell::most: not proved"), None)
+    expect_equal(of(own, "Cell::most: not proved"), None, "not named")
     expect_equal(
-        "two of a name", of(own, "Cell::value: not proved", "a::Cell::value: not proved"), None
+        of(own, "Cell::value: not proved", "a::Cell::value: not proved"), None, "two of a name"
     )
 
 
@@ -706,41 +680,41 @@ def floors_of_proofs():
         "30 passed, 0 failed",
         "wrong bodies: turn 7 of 8 tries 70 besides those of each gate",
     )
-    expect_equal("all", of(proved, turn, "wrong bodies: 124 refused, 0 not"), 0)
+    expect_equal(of(proved, turn, "wrong bodies: 124 refused, 0 not"), 0, "all")
     expect_equal(
-        "a crate less", of("29 passed, 0 failed", turn, "wrong bodies: 124 refused, 0 not"), 1
+        of("29 passed, 0 failed", turn, "wrong bodies: 124 refused, 0 not"), 1, "a crate less"
     )
     expect_equal(
-        "a failure", of("30 passed, 1 failed", turn, "wrong bodies: 124 refused, 0 not"), 1
+        of("30 passed, 1 failed", turn, "wrong bodies: 124 refused, 0 not"), 1, "a failure"
     )
-    expect_equal("a wrong body less", of(proved, turn, "wrong bodies: 123 refused, 0 not"), 1)
+    expect_equal(of(proved, turn, "wrong bodies: 123 refused, 0 not"), 1, "a wrong body less")
     expect_equal(
-        "a wrong body that is proved", of(proved, turn, "wrong bodies: 123 refused, 1 not"), 1
+        of(proved, turn, "wrong bodies: 123 refused, 1 not"), 1, "a wrong body that is proved"
     )
-    expect_equal("nothing", of(""), 2)
+    expect_equal(of(""), 2, "nothing")
 
 
 def quotes_of_files():
     with tempfile.TemporaryDirectory() as temporary:
-        write_file(f"{temporary}/lib.rt", "one\ntwo\nthree\nfour\n")
+        write_text(f"{temporary}/lib.rt", "one\ntwo\nthree\nfour\n")
 
         def is_quote(*lines, file="lib.rt"):
             block = documents.Block(1, "rust", f"{temporary}/{file}", "", [*lines])
             return documents.quote_fault(block) is None
 
-        expect_equal("lines in a row", is_quote("two", "three"), True)
-        expect_equal("lines left out", is_quote("one", "..", "four"), True)
-        expect_equal("another order", is_quote("three", "..", "two"), False)
-        expect_equal("lines that aren't in a row", is_quote("one", "three"), False)
-        expect_equal("part of a line", is_quote("wo"), False)
-        expect_equal("no such file", is_quote("two", file="main.rt"), False)
+        expect_equal(is_quote("two", "three"), True, "lines in a row")
+        expect_equal(is_quote("one", "..", "four"), True, "lines left out")
+        expect_equal(is_quote("three", "..", "two"), False, "another order")
+        expect_equal(is_quote("one", "three"), False, "lines that aren't in a row")
+        expect_equal(is_quote("wo"), False, "part of a line")
+        expect_equal(is_quote("two", file="main.rt"), False, "no such file")
 
 
 ALL = {
     "side_by_side": (crates_and_lines, tree_of_a_crate, order_of_tasks, faults_of_failures),
     "statements": (words_of_a_library, built_once, sums_after_a_new_layer),
     "first_run": (words_of_first_run, answers_twice, answers_and_saves),
-    "shares": (table_of_shares, edits_of_copies, shares_of_commands),
+    "processor_times": (table_of_processor_times, edits_of_copies, processor_times_of_commands),
     "wrong": (
         places_of_changes,
         selections_of_edits,

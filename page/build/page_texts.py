@@ -19,6 +19,8 @@ FOLD, COMMENT = "<details>", "# "
 EXERCISE = re.compile(r"^(\d)\. \*\*(.*?)[.?]\*\* (.*?)(?=^\d\. \*\*|^$|\Z)", re.M | re.S)
 DATA = re.compile(r"^# (goal|ask|option) (\d+): (.*)$", re.M)
 GUIDE, TOWERS, GLOSSARY = "docs/guide/script.md", "docs/guide/towers.md", "docs/GLOSSARY.md"
+# What the glossary also says of a hit: on the screen a hit is of a read
+OF_A_SEEK = re.compile(r"; of a seek: .*")
 
 
 def explained_in(page, words):
@@ -146,7 +148,8 @@ def explained(page, mark):
     found = row or item or sentence
     if not found:
         raise Unexplained(f"{page} doesn't explain {mark}")
-    return plain(found.group(1) if found is not sentence else found.group(0)).replace("`", "")
+    said = plain(found.group(1) if found is not sentence else found.group(0)).replace("`", "")
+    return OF_A_SEEK.sub("", said)
 
 
 def words():

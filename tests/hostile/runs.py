@@ -24,6 +24,13 @@ def program():
     return _BUILT[0]
 
 
+def write_file(path, data):
+    """Writes bytes to a file, and returns its path."""
+    with open(path, "wb") as file:
+        file.write(data)
+    return path
+
+
 def end_of_run(words, script=b"", seconds=SECONDS, **how):
     """Runs the program over a script, its bytes or an open file, and returns how it ended."""
     given = {"input": script} if isinstance(script, bytes) else {"stdin": script}

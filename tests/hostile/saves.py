@@ -11,7 +11,7 @@ import threading
 import time
 
 from files import NOBODY, become_nobody, is_run_by_nobody, made_pipe
-from runs import SECONDS, TOP, Ended, end_by_fault, end_of_run, good_end, program
+from runs import SECONDS, TOP, Ended, end_by_fault, end_of_run, good_end, program, write_file
 
 # A file of 20 MB, whose branch is saved again as the same bytes.
 STEPS = 2_500_000
@@ -26,12 +26,6 @@ KILLS, SEED = 200, 78
 # The limit on a file's size, the size of a small file system, and a file's permissions: other ones
 # than a new file has.
 LIMIT, SMALL_DISK, MODE = 2**20, 2**23, 0o640
-
-
-def write_file(path, data):
-    with open(path, "wb") as file:
-        file.write(data)
-    return path
 
 
 def bytes_at(path):

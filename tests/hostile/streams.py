@@ -6,7 +6,7 @@ import subprocess
 import threading
 import time
 
-from runs import SECONDS, Ended, end_by_fault, end_of_run, good_end, program
+from runs import SECONDS, Ended, end_by_fault, end_of_run, good_end, program, write_file
 
 TOWER = b"tower 1\nsafe 0\nr 1\ng 1 0\ng 1 0\n"
 # A script, and what each of its lines is answered over that tower. No prefix of a line is
@@ -37,12 +37,6 @@ TOO_LONG = end_by_fault("script too long")
 def closing(*streams):
     """Returns what closes standard streams in the child, for a run."""
     return {"preexec_fn": lambda: [os.close(it) for it in streams]}
-
-
-def write_file(path, data):
-    with open(path, "wb") as file:
-        file.write(data)
-    return path
 
 
 def check_unchanged(counts, path, data):

@@ -31,7 +31,7 @@ REFUSED = re.compile(rb"^(?:line )?[0-9]+: refused ", re.MULTILINE)
 # made of atomics.
 CHAIRS = "thread_tests"
 TESTS = {
-    "desks::rows::two_chairs": ("memcheck", "helgrind"),
+    "desks::two_chairs::two_chairs": ("memcheck", "helgrind"),
     "desks::threads::two_threads": ("memcheck",),
     "desks::guarded::fifty_guarded_edits_each": ("memcheck",),
     "desks::crossings::crossing_install": ("memcheck", "helgrind"),

@@ -14,10 +14,13 @@ import os
 import re
 import sys
 
+TOP = os.path.dirname(os.path.dirname(os.path.dirname(os.path.realpath(__file__))))
+sys.path.append(f"{TOP}/tools")
+from side_by_side import listed_crates  # noqa: E402
+
 MOST_COLUMNS, MOST_PARAMETERS = 100, 6
 # The public calls that serve a script
 SERVING = {"serve", "run_saving"}
-TOP = os.path.dirname(os.path.dirname(os.path.dirname(os.path.realpath(__file__))))
 CLAUSE = re.compile(r"\b(?:requires|ensures)\b[^{}\n]*\{")
 FUNCTION = re.compile(r"\bfn (\w+)")
 # What isn't code: texts, single characters, comments; a lifetime is no character.
@@ -103,11 +106,6 @@ def faults_in(path):
         yield f"{name}:{line}: {function} takes {count} parameters"
 
 
-def crates():
-    """Returns the names of all crates."""
-    return sorted(os.path.basename(os.path.dirname(it)) for it in glob.glob(f"{TOP}/crates/*/src"))
-
-
 def faults_of(crate):
     """Returns what is hard to read in a crate's contracts."""
     paths = sorted(glob.glob(f"{TOP}/crates/{crate}/src/**/*.rt", recursive=True))
@@ -120,11 +118,11 @@ def fault_of(crate):
 
 
 def main(names):
-    unknown = set(names) - set(crates())
+    unknown = set(names) - set(listed_crates())
     if unknown:
         print(__doc__, end="", file=sys.stderr)
         return 2
-    faults = [it for crate in names or crates() for it in faults_of(crate)]
+    faults = [it for crate in names or listed_crates() for it in faults_of(crate)]
     for it in faults:
         print(it)
     print(

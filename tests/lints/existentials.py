@@ -5,12 +5,12 @@ usage: tests/lints/existentials.py [NAME..]   of these crates, or of all
        tests/lints/existentials.py --list     prints each, with a function whose clause reaches it
 
 An existential is a `(x : T) ×` in a public clause or in a definition that one reaches, as
-tests/lints/citations.py says; or a record with fields that are data as well as fields that are
-facts. Its examples are theorems of its crate's proofs/Examples.antt: of a definition `Old` they are
-`Old-holds` and `Old-fails`, and of a clause's own existential they have the name of the function in
-place of `Old`, one of those whose clauses say the same of other values. Each is below a comment
-that says what is there or what is wrong, and names `Old`, or has a `(x : T) ×`; the near miss ends
-in `→ ⊥`. The last line sums up. Status 1 if an example is missing.
+tests/lints/named_definitions.py says; or a record with fields that are data as well as fields that
+are facts. Its examples are theorems of its crate's proofs/Examples.antt: of a definition `Old` they
+are `Old-holds` and `Old-fails`, and of a clause's own existential they have the name of the
+function in place of `Old`, one of those whose clauses say the same of other values. Each is below a
+comment that says what is there or what is wrong, and names `Old`, or has a `(x : T) ×`; the near
+miss ends in `→ ⊥`. The last line sums up. Status 1 if an example is missing.
 """
 import collections
 import functools
@@ -19,8 +19,8 @@ import re
 import sys
 
 TOP = os.path.dirname(os.path.dirname(os.path.dirname(os.path.realpath(__file__))))
-sys.path[:0] = [f"{TOP}/tests"]
-from lints.citations import (  # noqa: E402
+sys.path[:0] = [f"{TOP}/tests", f"{TOP}/tools"]
+from lints.named_definitions import (  # noqa: E402
     NAMED,
     WORD,
     all_clauses,
@@ -28,7 +28,7 @@ from lints.citations import (  # noqa: E402
     definitions,
     reached_definitions,
 )
-from lints.clauses import crates  # noqa: E402
+from side_by_side import listed_crates  # noqa: E402
 
 WITNESS = re.compile(r"\([\w' ]+ : (?:[^()]|\([^()]*\))*\)\s*×")
 # What only a fact has, and the types of data that are std's.
@@ -132,13 +132,13 @@ def main(words):
         for it in existentials():
             print(f"{it.where}: {it.names[0]}, by {it.by}")
         return 0
-    if set(words) - set(crates()):
+    if set(words) - set(listed_crates()):
         print(__doc__, end="", file=sys.stderr)
         return 2
-    faults = [it for crate in words or crates() for it in faults_of(crate)]
+    faults = [it for crate in words or listed_crates() for it in faults_of(crate)]
     for it in faults:
         print(it)
-    count = sum(it.crate in (words or crates()) for it in existentials())
+    count = sum(it.crate in (words or listed_crates()) for it in existentials())
     print(f"existentials: {count}, of whose {2 * count} examples {len(faults)} are missing")
     return 1 if faults else 0
 

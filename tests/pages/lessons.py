@@ -1,4 +1,4 @@
-"""Lessons in the page, and the policy under which it runs."""
+"""Lessons in the page."""
 import json
 import re
 
@@ -7,15 +7,6 @@ from pages.opened_page import LESSON_DRAWN, expect, expect_equal
 
 COMMENT, SOLUTION = "# ", "/your-own"
 DATA = re.compile(r"# (?:goal|ask|option)(?: \d+)?: ")
-VIOLATION = """new Promise((done) => {
-  addEventListener("securitypolicyviolation", (event) => done(event.effectiveDirective), { once: true });
-  setTimeout(() => done("nothing is refused"), 5000);
-  %s })"""
-REFUSED = {
-    "connect-src": "fetch('http://127.0.0.1:9/').catch(() => null)",
-    "img-src": "document.body.append(Object.assign(new Image(), { src: 'http://127.0.0.1:9/' }))",
-    "script-src-elem": "document.body.append(Object.assign(document.createElement('script'), { textContent: '1' }))",
-}
 
 
 def first_caption(lines):
@@ -141,12 +132,3 @@ def lesson_on_paper(page):
         "document.querySelector(it).checkVisibility())"
     )
     expect_equal(shown, [True, True, False, False, False, False])
-
-
-def policy(page):
-    """The page reaches no network and runs no code but its own."""
-    page.open()
-    for directive, attempt in REFUSED.items():
-        expect_equal(page.value(VIOLATION % attempt), directive)
-    # The browser says so on its console too
-    page.browser.complaints.clear()

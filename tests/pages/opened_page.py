@@ -4,6 +4,7 @@ import time
 import urllib.parse
 
 import cases
+from cases import expect_equal  # noqa: F401 (tests of the page take it from here)
 from pages.reader import NO_TOWER
 
 IDLE = "document.documentElement.ariaBusy !== 'true' && 'ready' in document.documentElement.dataset"
@@ -18,11 +19,6 @@ FILLED = """(() => { const it = document.querySelector(%s); it.value = %s;
 LESSON_DRAWN = "'drawn' in document.querySelector('#study-text').dataset"
 # The seconds between two looks at the page, and the most looks while a test waits
 PAUSE, TRIES = 0.02, 1500
-
-
-def expect_equal(found, wanted, label=""):
-    if found != wanted:
-        raise cases.Failure(f"{label}{': ' * bool(label)}wanted {wanted!r}, got {found!r}"[:500])
 
 
 def expect(is_so, message):

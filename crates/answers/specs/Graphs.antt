@@ -4,7 +4,7 @@ use Rattle.safe_bit.specs.Memory.{Memory}
 use Rattle.frames.specs.declared.types.Op.{Op}
 use Rattle.frames.specs.Behaviour.{Behaviour}
 use Rattle.frames.specs.StoredConfiguration.{IsConfiguration}
-use Rattle.breadth_first.specs.Shape.{Shape}
+use Rattle.breadth_first.specs.Graph.{GraphOf}
 use Rattle.answers.specs.declared.question.Question.{Question}
 use Rattle.answers.specs.Packing.{state_bytes}
 use Rattle.answers.specs.States.{StateOf, first_state, is_over, moved}
@@ -16,7 +16,7 @@ all_over q x (suc n) = is_over q x n && all_over q x n
 
 -- the moves of a question from the initial state of register r; its goals are the states in which
 -- all is over
-abbrev pub moves_of : {R P : Type 0} → (R → Behaviour P) → Question → R → Shape (StateOf R P) (List ℕ)
+abbrev pub moves_of : {R P : Type 0} → (R → Behaviour P) → Question → R → GraphOf (StateOf R P) (List ℕ)
 moves_of is q r = record {
   labels = (is r).processes * 4;
   move = λ x l. moved (is x.configuration.register) q x l;

@@ -39,7 +39,7 @@ impl<'q, R: Register> Graph for Moves<'q, R> {
     ghost use Rattle.answers.specs.laws.KeyLaws.{same_keys, holds_after_move};
     ghost use Rattle.answers.specs.laws.StateLaws.{moved_alike};
 
-    ghost shape = { λ g. moves_of R.behaviour g.question.now g.register };
+    ghost graph = { λ g. moves_of R.behaviour g.question.now g.register };
 
     ghost Holds = { λ g. IsStateOf (R.behaviour g.register) (R.Holds g.register) (R.Reaches g.register) g.register };
 

@@ -9,9 +9,9 @@ ghost use Rattle.schedule_trie.specs.Trie.{AreLimits};
 
 mod commands;
 mod cursors;
+mod drops_and_seeks;
 mod refusals;
 mod refused_writes;
-mod rows;
 
 use self::commands::go;
 use crate::charts::single::{KeyedRun, only_run, page_once, text_once};

@@ -1,10 +1,10 @@
 //! Tests of charts on one safe bit.
 
 mod counting;
-mod growths;
 mod installs;
 mod late;
 mod lenses;
-mod rows;
+mod out_of_memory;
+mod replay_counts;
 pub(crate) mod single;
 mod steps;

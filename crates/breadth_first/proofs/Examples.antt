@@ -7,7 +7,7 @@ use Rattle.std.proofs.lemmas.Option.{none-some, same_Some}
 use Rattle.breadth_first.specs.declared.mark.Mark.{Mark}
 use Rattle.breadth_first.specs.Paths.{mark_of_start, depth_at, Moves, Reaches, IsMade, IsTrail, LeadsBy, IsFound, IsExpanding, AreTooMany}
 use Rattle.breadth_first.specs.Searches.{IsWholeSearch}
-use Rattle.breadth_first.specs.Shape.{Shape}
+use Rattle.breadth_first.specs.Graph.{GraphOf}
 use Rattle.breadth_first.proofs.Reachable.{all_reached}
 use Rattle.breadth_first.proofs.Started.{expanding_first}
 
@@ -110,7 +110,7 @@ AreTooMany-fails : AreTooMany 0 move nat_eq 0 1 → ⊥
 AreTooMany-fails h = one_start h.nodes h.distinct h.reached h.many
 
 -- a graph without labels, whose keys are its nodes
-abbrev no_labels : Shape ℕ ℕ
+abbrev no_labels : GraphOf ℕ ℕ
 no_labels = record { labels = 0; move = move; origin = 0; key = λ n. n; is_goal = λ n. false }
 
 same_moves : (x y : ℕ) → nat_eq x y ≡ true → (l z : ℕ) → move x l ≡ Some z → (w : ℕ) × ((move y l ≡ Some w) × (nat_eq z w ≡ true))

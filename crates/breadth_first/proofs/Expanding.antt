@@ -3,7 +3,7 @@ use Rattle.std.proofs.Common.{◌≡◌, ℕ, ◌+◌, ◌<◌, ◌≤◌, inl, 
 use Rattle.std.proofs.lemmas.Bool.{cases_lt}
 use Rattle.std.proofs.lemmas.Option.{same_Some, slice_get_within, slice_get_cases}
 use Rattle.breadth_first.specs.declared.mark.Mark.{Mark}
-use Rattle.breadth_first.specs.Shape.{Shape}
+use Rattle.breadth_first.specs.Graph.{GraphOf}
 use Rattle.breadth_first.specs.Paths.{depth_at, Moves, IsFound, IsExpanding, IsFollowed}
 use Rattle.breadth_first.specs.Searches.{IsSearching, IsSearch, IsSearchAt, IsSearchAfter}
 
@@ -31,7 +31,7 @@ module _ {N : Type 0} (labels : ℕ) (move : N → ℕ → Option N) (eq : N →
       last : (i : ℕ) → i ≡ l → (x y : N) → slice_get nodes at ≡ Some x → move x i ≡ Some y → IsFound labels move eq new_nodes new_marks y (depth_at marks at + 1)
       last i e x y old mv = f.discovered x y old (sym (ap (move x) e) ∙ mv)
 
-module _ {N K : Type 0} (g : Shape N K) (eq : N → N → Bool) (Holds : N → Type 0) (x : N) (at : ℕ) where
+module _ {N K : Type 0} (g : GraphOf N K) (eq : N → N → Bool) (Holds : N → Type 0) (x : N) (at : ℕ) where
   -- the moves from x, which is at index `at`, are followed by the labels below l
   pub record IsExpandingLabels (keys : List K) (goals : List Bool) (marks : List Mark) (queue : List N) (l : ℕ) : Type 0 where
     pub nodes : List N

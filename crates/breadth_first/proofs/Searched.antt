@@ -5,7 +5,7 @@ use Rattle.std.specs.Cmp.{IsEquivalence}
 use Rattle.std.proofs.lemmas.List.{map-append, length-map, length_push, length-drop, drop-append-le}
 use Rattle.std.proofs.lemmas.Option.{none-some, slice_get_within}
 use Rattle.breadth_first.specs.declared.mark.Mark.{Mark}
-use Rattle.breadth_first.specs.Shape.{Shape}
+use Rattle.breadth_first.specs.Graph.{GraphOf}
 use Rattle.breadth_first.specs.Paths.{mark_of_start, depth_at, AreTooMany}
 use Rattle.breadth_first.specs.Searches.{IsOldNode, IsNewNode, AreKeysOf, IsSearching, IsSearch, IsSearchAt, IsSearchAfter, IsWholeSearch}
 use Rattle.breadth_first.proofs.Items.{old_or_new}
@@ -25,7 +25,7 @@ empty_if_rest_same : {X : Type 0} (xs : List X) → xs ≡ drop 1 xs → length 
 empty_if_rest_same [] h = refl
 empty_if_rest_same (x ∷ xs) h = let e : length (x ∷ xs) ≡ length xs = ap length h in absurd (omega (arith, e))
 
-module _ {N K : Type 0} (g : Shape N K) (eq : N → N → Bool) (eq_key : K → K → Bool) (Holds : N → Type 0) where
+module _ {N K : Type 0} (g : GraphOf N K) (eq : N → N → Bool) (eq_key : K → K → Bool) (Holds : N → Type 0) where
   -- a node equal to y is among the nodes exactly if a key equal to y's is among their keys
   pub any_key : (same : (x y : N) → Holds x → Holds y → eq_key (g.key x) (g.key y) ≡ eq x y) (y : N) (nodes : List N) → Holds y
       → ((i : ℕ) (x : N) → slice_get nodes i ≡ Some x → Holds x) → list_any (eq_key (g.key y)) (map g.key nodes) ≡ list_any (eq y) nodes

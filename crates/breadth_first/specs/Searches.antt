@@ -3,9 +3,9 @@ use Rattle.std.specs.Prelude.{◌≡◌, ℕ, ◌+◌, ◌<◌, Bool, true, fals
 use Rattle.std.specs.List.{list_any}
 use Rattle.breadth_first.specs.declared.mark.Mark.{Mark}
 use Rattle.breadth_first.specs.Paths.{IsExpanding, IsFollowed, IsAllReached}
-use Rattle.breadth_first.specs.Shape.{Shape}
+use Rattle.breadth_first.specs.Graph.{GraphOf}
 
-module _ {N K : Type 0} (g : Shape N K) where
+module _ {N K : Type 0} (g : GraphOf N K) where
   module _ (eq_key : K → K → Bool) where
     -- a node whose key was there isn't noted again
     pub record IsOldNode (node : N) (keys new_keys : List K) (goals new_goals : List Bool) (marks new_marks : List Mark) (queue new_queue : List N) : Type 0 where

@@ -2,7 +2,7 @@
 
 ghost use Rattle.std.specs.Prelude.{◌≡◌, ℕ, ◌<◌, ◌+◌, Some, true, IfOk, IfSome};
 ghost use Rattle.std.specs.Option.{option_map};
-ghost use Rattle.breadth_first.specs.Shape.{Shape};
+ghost use Rattle.breadth_first.specs.Graph.{GraphOf};
 
 use std::alloc::{AllocError, Global};
 use std::hash::Hash;
@@ -23,14 +23,14 @@ pub trait Graph {
     type Key: Eq + Hash + Drop;
 
     // The labels, the moves, the node that a search begins at, the nodes' keys, and the goals.
-    ghost shape: { Self → Shape Self.Node Self.Key };
+    ghost graph: { Self → GraphOf Self.Node Self.Key };
 
     // What holds of each node that a search discovers.
     ghost Holds: { Self → Self.Node → Type 0 };
 
     /// The number of labels. The labels are 0 to one less than this number.
     fn label_count(&self) -> usize
-        ensures { result ≡ (shape self.now).labels };
+        ensures { result ≡ (graph self.now).labels };
 
     /// The node to which the label leads from this node, if any; says also whether the next label
     /// is known to lead there. `AllocError` if memory runs out.
@@ -40,31 +40,31 @@ pub trait Graph {
         node: &Self::Node,
         label: usize,
     ) -> Result<Option<Arrival<Self::Node>>, AllocError>
-        requires labelled { label < (shape self.now).labels }
+        requires labelled { label < (graph self.now).labels }
         requires holds { Holds self.now node.now }
         ensures node { IfOk result
-            (λ r. option_map (λ a. a.node) r ≡ (shape self.now).move node.now label) }
+            (λ r. option_map (λ a. a.node) r ≡ (graph self.now).move node.now label) }
         ensures again { IfOk result (λ r. IfSome r (λ a. a.again ≡ true
-            → (shape self.now).move node.now (label + 1) ≡ Some a.node)) };
+            → (graph self.now).move node.now (label + 1) ≡ Some a.node)) };
 
     /// The node's key. `AllocError` if memory runs out.
     fn key(&self, alloc: Global, node: &Self::Node) -> Result<Self::Key, AllocError>
-        ensures { IfOk result (λ k. k ≡ (shape self.now).key node.now) };
+        ensures { IfOk result (λ k. k ≡ (graph self.now).key node.now) };
 
     /// Whether the node is a goal.
     fn is_goal(&self, node: &Self::Node) -> bool
-        ensures { result ≡ (shape self.now).is_goal node.now };
+        ensures { result ≡ (graph self.now).is_goal node.now };
 
     // From equal nodes each label leads to equal nodes.
     ghost alike: { (g : Self) (x y : Self.Node) → Self.Node.eq x y ≡ true → (l : ℕ) (z : Self.Node)
-        → (shape g).move x l ≡ Some z
-        → (w : Self.Node) × (((shape g).move y l ≡ Some w) × (Self.Node.eq z w ≡ true)) };
+        → (graph g).move x l ≡ Some z
+        → (w : Self.Node) × (((graph g).move y l ≡ Some w) × (Self.Node.eq z w ≡ true)) };
 
     // `Holds` is kept by each move.
     ghost holds_after: { (g : Self) (x y : Self.Node) (l : ℕ) → Holds g x
-        → (shape g).move x l ≡ Some y → Holds g y };
+        → (graph g).move x l ≡ Some y → Holds g y };
 
     // Keys of nodes of which `Holds` holds are equal exactly if the nodes are.
     ghost same_key: { (g : Self) (x y : Self.Node) → Holds g x → Holds g y
-        → Self.Key.eq ((shape g).key x) ((shape g).key y) ≡ Self.Node.eq x y };
+        → Self.Key.eq ((graph g).key x) ((graph g).key y) ≡ Self.Node.eq x y };
 }

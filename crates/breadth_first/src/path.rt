@@ -16,15 +16,15 @@ pub fn path_to<G: Graph>(
     marks: &[Mark],
     index: u32,
 ) -> Result<Vec<Mark>, AllocError>
-    requires trail { (nodes : List G.Node) × IsTrail (G.shape graph.now).labels
-        (G.shape graph.now).move nodes marks.now }
+    requires trail { (nodes : List G.Node) × IsTrail (G.graph graph.now).labels
+        (G.graph graph.now).move nodes marks.now }
     requires there { index < length marks.now }
     ensures leads { IfOk result (λ path. (nodes : List G.Node)
-        → IsTrail (G.shape graph.now).labels (G.shape graph.now).move nodes marks.now
+        → IsTrail (G.graph graph.now).labels (G.graph graph.now).move nodes marks.now
         → (start node : G.Node)
         → slice_get nodes 0 ≡ Some start
         → slice_get nodes index ≡ Some node
-        → LeadsBy (G.shape graph.now).labels (G.shape graph.now).move nodes
+        → LeadsBy (G.graph graph.now).labels (G.graph graph.now).move nodes
         start path.items node) }
     ensures long { IfOk result (λ path. length path.items ≡ depth_at marks.now index) }
 {

@@ -39,15 +39,15 @@ pub fn reach<G: Graph>(
     start: G::Node,
     most: u32,
 ) -> Result<Reached<G::Key>, Unreached>
-    requires starts { start ≡ (G.shape graph.now).origin }
+    requires starts { start ≡ (G.graph graph.now).origin }
     requires holds { G.Holds graph.now start }
-    ensures all { IfOk result (λ r. IsWholeSearch (G.shape graph.now) G.Node.eq (G.Holds graph.now)
+    ensures all { IfOk result (λ r. IsWholeSearch (G.graph graph.now) G.Node.eq (G.Holds graph.now)
         r.keys.keys r.goals.items r.marks.items) }
     ensures fits { IfOk result (λ r. length r.keys.keys ≤ most) }
-    ensures few { IfOk result (λ _. AreTooMany (G.shape graph.now).labels
-        (G.shape graph.now).move G.Node.eq (G.shape graph.now).origin most → ⊥) }
-    ensures too_many { result ≡ Err TooMany → AreTooMany (G.shape graph.now).labels
-        (G.shape graph.now).move G.Node.eq (G.shape graph.now).origin most }
+    ensures few { IfOk result (λ _. AreTooMany (G.graph graph.now).labels
+        (G.graph graph.now).move G.Node.eq (G.graph graph.now).origin most → ⊥) }
+    ensures too_many { result ≡ Err TooMany → AreTooMany (G.graph graph.now).labels
+        (G.graph graph.now).move G.Node.eq (G.graph graph.now).origin most }
 {
     let mut search = begin::<G>(alloc);
     let origin = Mark {
@@ -66,16 +66,16 @@ fn expand_all<G: Graph>(
     search: &mut Search<G::Node, G::Key>,
     most: u32,
 ) -> Result<(), Unreached>
-    requires searching { IsSearch (G.shape graph.now) G.Node.eq (G.Holds graph.now)
+    requires searching { IsSearch (G.graph graph.now) G.Node.eq (G.Holds graph.now)
         search.old.reached.keys.keys search.old.reached.goals.items
         search.old.reached.marks.items search.old.queue.items 0 0 }
     requires fits { length search.old.reached.keys.keys ≤ most }
-    ensures all { OnOk result (IsWholeSearch (G.shape graph.now) G.Node.eq (G.Holds graph.now)
+    ensures all { OnOk result (IsWholeSearch (G.graph graph.now) G.Node.eq (G.Holds graph.now)
         search.new.reached.keys.keys search.new.reached.goals.items
         search.new.reached.marks.items) }
     ensures fits { OnOk result (length search.new.reached.keys.keys ≤ most) }
-    ensures too_many { result ≡ Err TooMany → AreTooMany (G.shape graph.now).labels
-        (G.shape graph.now).move G.Node.eq (G.shape graph.now).origin most }
+    ensures too_many { result ≡ Err TooMany → AreTooMany (G.graph graph.now).labels
+        (G.graph graph.now).move G.Node.eq (G.graph graph.now).origin most }
 {
     for at in 0..most {
         let Some(node) = search.queue.pop_front() else {
@@ -114,18 +114,18 @@ fn discover<G: Graph>(
     most: u32,
 ) -> Result<(), Unreached>
     ensures discovered { OnOk result (
-        IsOldNode (G.shape graph.now) G.Key.eq node
+        IsOldNode (G.graph graph.now) G.Key.eq node
         search.old.reached.keys.keys search.new.reached.keys.keys
         search.old.reached.goals.items search.new.reached.goals.items
         search.old.reached.marks.items search.new.reached.marks.items
         search.old.queue.items search.new.queue.items
-        ⊎ IsNewNode (G.shape graph.now) G.Key.eq node mark most
+        ⊎ IsNewNode (G.graph graph.now) G.Key.eq node mark most
         search.old.reached.keys.keys search.new.reached.keys.keys
         search.old.reached.goals.items search.new.reached.goals.items
         search.old.reached.marks.items search.new.reached.marks.items
         search.old.queue.items search.new.queue.items) }
     ensures too_many { result ≡ Err TooMany
-        → (list_any (G.Key.eq ((G.shape graph.now).key node)) search.old.reached.keys.keys ≡ false)
+        → (list_any (G.Key.eq ((G.graph graph.now).key node)) search.old.reached.keys.keys ≡ false)
         × (most ≤ length search.old.reached.keys.keys) }
 {
     let Ok(key) = graph.key(search.alloc, &node) else {
@@ -181,25 +181,25 @@ fn follow<G: Graph>(
     label: usize,
     most: u32,
 ) -> Result<bool, Unreached>
-    requires searching { IsSearchAt (G.shape graph.now) G.Node.eq (G.Holds graph.now) node.now
+    requires searching { IsSearchAt (G.graph graph.now) G.Node.eq (G.Holds graph.now) node.now
         search.old.reached.keys.keys search.old.reached.goals.items
         search.old.reached.marks.items search.old.queue.items at }
-    requires labelled { label < (G.shape graph.now).labels }
+    requires labelled { label < (G.graph graph.now).labels }
     requires room { at < most }
     requires fits { length search.old.reached.keys.keys ≤ most }
     ensures followed { OnOk result ((nodes : List G.Node) → slice_get nodes at ≡ Some node.now
-        → IsSearching (G.shape graph.now) G.Node.eq (G.Holds graph.now) nodes
+        → IsSearching (G.graph graph.now) G.Node.eq (G.Holds graph.now) nodes
         search.old.reached.keys.keys search.old.reached.goals.items
         search.old.reached.marks.items search.old.queue.items (at + 1) at
-        → IsSearchAfter (G.shape graph.now) G.Node.eq (G.Holds graph.now) nodes
+        → IsSearchAfter (G.graph graph.now) G.Node.eq (G.Holds graph.now) nodes
         search.old.reached.marks.items
         search.new.reached.keys.keys search.new.reached.goals.items
         search.new.reached.marks.items search.new.queue.items at label) }
     ensures again { IfOk result (λ again. again ≡ true
-        → (G.shape graph.now).move node.now (label + 1) ≡ (G.shape graph.now).move node.now label) }
+        → (G.graph graph.now).move node.now (label + 1) ≡ (G.graph graph.now).move node.now label) }
     ensures fits { OnOk result (length search.new.reached.keys.keys ≤ most) }
-    ensures too_many { result ≡ Err TooMany → AreTooMany (G.shape graph.now).labels
-        (G.shape graph.now).move G.Node.eq (G.shape graph.now).origin most }
+    ensures too_many { result ≡ Err TooMany → AreTooMany (G.graph graph.now).labels
+        (G.graph graph.now).move G.Node.eq (G.graph graph.now).origin most }
 {
     let Ok(found) = graph.next(search.alloc, node, label) else {
         return Err(Unreached::Memory);
@@ -228,17 +228,17 @@ fn expand<G: Graph>(
     at: u32,
     most: u32,
 ) -> Result<(), Unreached>
-    requires searching { IsSearchAt (G.shape graph.now) G.Node.eq (G.Holds graph.now) node.now
+    requires searching { IsSearchAt (G.graph graph.now) G.Node.eq (G.Holds graph.now) node.now
         search.old.reached.keys.keys search.old.reached.goals.items
         search.old.reached.marks.items search.old.queue.items at }
     requires room { at < most }
     requires fits { length search.old.reached.keys.keys ≤ most }
-    ensures expanded { OnOk result (IsSearch (G.shape graph.now) G.Node.eq (G.Holds graph.now)
+    ensures expanded { OnOk result (IsSearch (G.graph graph.now) G.Node.eq (G.Holds graph.now)
         search.new.reached.keys.keys search.new.reached.goals.items
         search.new.reached.marks.items search.new.queue.items (at + 1) (at + 1)) }
     ensures fits { OnOk result (length search.new.reached.keys.keys ≤ most) }
-    ensures too_many { result ≡ Err TooMany → AreTooMany (G.shape graph.now).labels
-        (G.shape graph.now).move G.Node.eq (G.shape graph.now).origin most }
+    ensures too_many { result ≡ Err TooMany → AreTooMany (G.graph graph.now).labels
+        (G.graph graph.now).move G.Node.eq (G.graph graph.now).origin most }
 {
     let mut again = false;
     for label in 0..graph.label_count() {

@@ -1,3 +1,3 @@
 pub mod StoredEvents
-pub mod Segment
+pub mod Runs
 pub mod MarkedSteps

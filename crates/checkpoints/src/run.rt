@@ -2,7 +2,7 @@
 
 ghost use Rattle.std.specs.Prelude.{◌≡◌, IfOk, map};
 ghost use Rattle.std.specs.Arc.{arc_value};
-ghost use Rattle.checkpoints.specs.Segment.{IsRun};
+ghost use Rattle.checkpoints.specs.Runs.{IsTrueRun};
 ghost use Rattle.frames.specs.Recorded.{AllFit};
 
 use crate::events::{EventWalk, MarkedSteps};
@@ -27,14 +27,14 @@ pub struct Run<R: Register> {
 
 impl<R: Register> Model for Run<R> {
     ghost use Rattle.std.specs.Arc.{arc_value};
-    ghost use Rattle.checkpoints.specs.Segment.{SegmentRun, IsRun};
+    ghost use Rattle.checkpoints.specs.Runs.{SegmentRun, IsTrueRun};
     ghost use Rattle.checkpoints.specs.MarkedSteps.{reported_in};
 
     ghost Value = { SegmentRun R R.Pending };
 
     ghost view = { λ r. record { entry = arc_value r.entry; steps = r.reported.steps.items; exit = arc_value r.exit; events = reported_in r.reported } };
 
-    ghost invariant = { λ r. IsRun (R.behaviour (arc_value r.entry).register) (record { entry = arc_value r.entry; steps = r.reported.steps.items; exit = arc_value r.exit; events = reported_in r.reported }) };
+    ghost invariant = { λ r. IsTrueRun (R.behaviour (arc_value r.entry).register) (record { entry = arc_value r.entry; steps = r.reported.steps.items; exit = arc_value r.exit; events = reported_in r.reported }) };
 }
 
 impl<R: Register> Run<R> {
@@ -42,7 +42,7 @@ impl<R: Register> Run<R> {
     /// it gives the run's exit and events.
     pub fn entry(&self) -> &Config<R>
         ensures entry { result.now ≡ self.now.entry }
-        ensures kept { IsRun (R.behaviour self.now.entry.register) self.now }
+        ensures kept { IsTrueRun (R.behaviour self.now.entry.register) self.now }
     {
         &self.entry
     }
@@ -51,7 +51,7 @@ impl<R: Register> Run<R> {
     /// gives the run's exit and events.
     pub fn steps(&self) -> &[Step]
         ensures steps { result.now ≡ self.now.steps }
-        ensures kept { IsRun (R.behaviour self.now.entry.register) self.now }
+        ensures kept { IsTrueRun (R.behaviour self.now.entry.register) self.now }
     {
         &self.reported.steps
     }
@@ -60,7 +60,7 @@ impl<R: Register> Run<R> {
     /// making them from this entry gives this configuration and the run's events.
     pub fn exit(&self) -> &Config<R>
         ensures exit { result.now ≡ self.now.exit }
-        ensures kept { IsRun (R.behaviour self.now.entry.register) self.now }
+        ensures kept { IsTrueRun (R.behaviour self.now.entry.register) self.now }
     {
         self.shared_exit()
     }
@@ -70,7 +70,7 @@ impl<R: Register> Run<R> {
     /// configuration and the run's events.
     pub fn shared_exit(&self) -> &Arc<Config<R>>
         ensures exit { arc_value result.now ≡ self.now.exit }
-        ensures kept { IsRun (R.behaviour self.now.entry.register) self.now }
+        ensures kept { IsTrueRun (R.behaviour self.now.entry.register) self.now }
     {
         &self.exit
     }
@@ -79,7 +79,7 @@ impl<R: Register> Run<R> {
     /// of the run's entry, and making them from this entry gives the run's exit and these events.
     pub fn events(&self) -> EventWalk<'_>
         ensures events { result ≡ self.now.events }
-        ensures kept { IsRun (R.behaviour self.now.entry.register) self.now }
+        ensures kept { IsTrueRun (R.behaviour self.now.entry.register) self.now }
     {
         self.reported.walk()
     }

@@ -2,7 +2,7 @@
 use Rattle.std.proofs.Common.{ℕ, zero, suc, ◌≡◌, ◌+◌, false, List, [], ◌∷◌, ◌++◌, Some, length, drop, take, slice_index_or, ap, refl, sym, ◌∙◌, append-nil, arith}
 use Rattle.conversation.specs.declared.fault.StreamFault.TheVariants.{Read, Memory}
 use Rattle.conversation.specs.Streams.{streams}
-use Rattle.conversation.specs.Scripts.{LineAnswering, Marks, lines_of, whole_lines, IsLineAnswer}
+use Rattle.conversation.specs.Scripts.{LineAnswering, RefusedMemory, lines_of, whole_lines, IsLineAnswer}
 use Rattle.conversation.specs.Conversations.{Answering, IsFront, WroteFront, IsAnswered, WentOut, EndsWithFault}
 
 abbrev first : List ℕ → ℕ
@@ -10,10 +10,10 @@ first list = slice_index_or list 0 5
 
 -- lines are answered by the number of lines, whether memory was refused or not
 abbrev counting : Answering
-counting lines marks = length lines ∷ []
+counting lines refused = length lines ∷ []
 
-abbrev unmarked : Marks
-unmarked number = false
+abbrev none_refused : RefusedMemory
+none_refused number = false
 
 -- a line is answered by its number, and adds one to the world
 abbrev numbering : LineAnswering ℕ
@@ -43,7 +43,7 @@ WroteFront-fails h =
 
 -- `a` and a line end are read to the end: two lines, of which the last is empty
 IsAnswered-holds : IsAnswered counting (streams (Some one_line) (Some [])) (streams (Some []) (Some (2 ∷ [])))
-IsAnswered-holds = record { script = one_line; marks = unmarked; read = refl; ended = refl; short = omega arith; wrote = refl }
+IsAnswered-holds = record { script = one_line; refused = none_refused; read = refl; ended = refl; short = omega arith; wrote = refl }
 
 -- one of the lines wasn't answered
 IsAnswered-fails : IsAnswered counting (streams (Some one_line) (Some [])) (streams (Some []) (Some (1 ∷ []))) → ⊥
@@ -53,14 +53,14 @@ IsAnswered-fails h =
     let wrote : 1 ≡ length (lines_of h.script) = ap first h.wrote in omega (arith, lines, wrote)
 
 -- out of memory, after the one whole line was answered
-WentOut-holds : WentOut Memory counting unmarked one_line (Some []) (1 ∷ [])
+WentOut-holds : WentOut Memory counting none_refused one_line (Some []) (1 ∷ [])
 WentOut-holds = (1, refl)
 
 -- two lines can't have been answered, since the last line has no end
-WentOut-fails : WentOut Memory counting unmarked one_line (Some []) (2 ∷ []) → ⊥
+WentOut-fails : WentOut Memory counting none_refused one_line (Some []) (2 ∷ []) → ⊥
 WentOut-fails h = by h.0 (ap first h.1)
   where
-    by : (count : ℕ) → 2 ≡ first (counting (take count (whole_lines one_line)) unmarked) → ⊥
+    by : (count : ℕ) → 2 ≡ first (counting (take count (whole_lines one_line)) none_refused) → ⊥
     by zero e = omega (arith, e)
     by (suc zero) e = omega (arith, e)
     by (suc (suc count)) e = let two_is : 2 ≡ 1 = e in omega (arith, two_is)
@@ -68,7 +68,7 @@ WentOut-fails h = by h.0 (ap first h.1)
 -- a read failed after `a`, a line end and `b`: the whole line was answered
 EndsWithFault-holds : EndsWithFault counting Read (streams (Some (97 ∷ 10 ∷ 98 ∷ [])) (Some [])) (streams (Some []) (Some (1 ∷ [])))
 EndsWithFault-holds =
-    record { seen = 97 ∷ 10 ∷ 98 ∷ []; marks = unmarked; text = 1 ∷ []; read = refl; few = omega arith; wrote = refl; went = refl }
+    record { seen = 97 ∷ 10 ∷ 98 ∷ []; refused = none_refused; text = 1 ∷ []; read = refl; few = omega arith; wrote = refl; went = refl }
 
 -- the line that has no end was answered as well
 EndsWithFault-fails : EndsWithFault counting Read (streams (Some (97 ∷ 10 ∷ 98 ∷ [])) (Some [])) (streams (Some []) (Some (2 ∷ []))) → ⊥

@@ -38,7 +38,7 @@ module _ {W : Type 0} (define : LineAnswering W) (start : W) where
     pub fault_read : (next : Option (List ℕ)) → Consumes after.unread next [] → count ≤ MOST_SCRIPT_BYTES → EndsWithFault (answers_to define start) Read before (streams next after.written)
     fault_read next k few = record {
       seen = r.seen;
-      marks = r.reported.marks;
+      refused = r.reported.refused;
       text = r.text;
       read = consumes_kept before.unread after.unread next r.seen r.read k;
       few = omega (arith, r.counted);
@@ -50,7 +50,7 @@ module _ {W : Type 0} (define : LineAnswering W) (start : W) where
     pub fault_too_long : count ≤ MOST_SCRIPT_BYTES → EndsWithFault (answers_to define start) TooLong before after
     fault_too_long few = record {
       seen = r.seen;
-      marks = r.reported.marks;
+      refused = r.reported.refused;
       text = r.text;
       read = r.read;
       few = omega (arith, r.counted);
@@ -63,7 +63,7 @@ module _ {W : Type 0} (define : LineAnswering W) (start : W) where
         → EndsWithFault (answers_to define start) Memory before (streams next after.written)
     fault_memory next piece k few = record {
       seen = r.seen ++ piece;
-      marks = r.reported.marks;
+      refused = r.reported.refused;
       text = r.text;
       read = Consumes-trans before.unread after.unread next r.seen piece r.read k;
       few = omega (arith, r.counted, length-append r.seen piece);
@@ -84,7 +84,7 @@ module _ {W : Type 0} (define : LineAnswering W) (start : W) where
         counted = omega (arith, r.counted, size, length-append r.seen piece);
         wrote = Appends-trans before.written after.written last r.text out r.wrote w;
         reported = record {
-          marks = t.marks;
+          refused = t.refused;
           whole = t.whole;
           rest = t.rest;
           cut = t.cut;
@@ -103,7 +103,7 @@ module _ {W : Type 0} (define : LineAnswering W) (start : W) where
           let all = answered_whole define start (r.seen ++ piece) new_world new_lines new_line (r.text ++ out) t in
           record {
             seen = r.seen ++ piece;
-            marks = t.marks;
+            refused = t.refused;
             text = r.text ++ front;
             read = Consumes-trans before.unread after.unread next r.seen piece r.read k;
             few = omega (arith, r.counted, size, length-append r.seen piece);
@@ -114,7 +114,7 @@ module _ {W : Type 0} (define : LineAnswering W) (start : W) where
     -- between pieces no answer is held back, so all that was read is answered
     pub answered_between_pieces : (out : List ℕ) → out ≡ [] → HasAnswered define start r.seen world lines line (r.text ++ out)
     answered_between_pieces out e = record {
-      marks = r.reported.marks;
+      refused = r.reported.refused;
       whole = r.reported.whole;
       rest = r.reported.rest;
       cut = r.reported.cut;
@@ -141,7 +141,7 @@ module _ {W : Type 0} (define : LineAnswering W) (start : W) where
         answered =
             record {
               script = r.seen;
-              marks = every_line.marks;
+              refused = every_line.refused;
               read = r.read;
               ended = ended;
               short = omega (arith, r.counted);
@@ -156,7 +156,7 @@ module _ {W : Type 0} (define : LineAnswering W) (start : W) where
           let h = front_append r.text front out f in
           record {
             seen = r.seen;
-            marks = every_line.marks;
+            refused = every_line.refused;
             text = r.text ++ front;
             read = r.read;
             few = omega (arith, r.counted);

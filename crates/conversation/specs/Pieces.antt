@@ -6,7 +6,7 @@ use Rattle.conversation.specs.declared.converse.Conversation.{Conversation}
 use Rattle.conversation.specs.declared.fault.StreamFault.{StreamFault}
 use Rattle.conversation.specs.declared.limits.TheConstants.{KEPT_BYTES}
 use Rattle.conversation.specs.Streams.{Streams}
-use Rattle.conversation.specs.Scripts.{LineAnswering, Marks, lines_of, after_lines, answers_to, is_line_end}
+use Rattle.conversation.specs.Scripts.{LineAnswering, RefusedMemory, lines_of, after_lines, answers_to, is_line_end}
 use Rattle.conversation.specs.Conversations.{Leaves, EndsWithFault}
 
 -- The whole lines of the bytes `seen`, those that end with an LF, were answered, from the opening
@@ -14,14 +14,14 @@ use Rattle.conversation.specs.Conversations.{Leaves, EndsWithFault}
 -- of them may have been refused memory. `line` is what is kept of the bytes after the last LF: at
 -- most the first KEPT_BYTES.
 pub record HasAnswered {W : Type 0} (define : LineAnswering W) (start : W) (seen : List ℕ) (world : W) (lines : ℕ) (line text : List ℕ) : Type 0 where
-  pub marks : Marks
+  pub refused : RefusedMemory
   pub whole : List (List ℕ)
   pub rest : List ℕ
   pub cut : lines_of seen ≡ whole ++ rest ∷ []
   pub kept : line ≡ take KEPT_BYTES rest
-  pub same_world : world ≡ (after_lines define start whole marks).world
-  pub same_lines : lines ≡ (after_lines define start whole marks).lines
-  pub same_text : text ≡ (after_lines define start whole marks).text
+  pub same_world : world ≡ (after_lines define start whole refused).world
+  pub same_lines : lines ≡ (after_lines define start whole refused).lines
+  pub same_text : text ≡ (after_lines define start whole refused).text
 
 -- Suppose that some bytes were answered (`HasAnswered`), which left the conversation `before` and
 -- the world `old`. Then these bytes followed by `piece` are answered, which leaves the conversation

@@ -16,8 +16,8 @@ abbrev pub LineAnswering : Type 0 → Type 0
 LineAnswering W = Bool → ℕ → List ℕ → W → Answered W
 
 -- for each line's number, whether that line was refused memory
-abbrev pub Marks : Type 0
-Marks = ℕ → Bool
+abbrev pub RefusedMemory : Type 0
+RefusedMemory = ℕ → Bool
 
 -- whether a byte is a line end, which is an LF
 abbrev pub is_line_end : ℕ → Bool
@@ -53,20 +53,20 @@ beginning w = record { world = w; lines = 0; text = [] }
 abbrev pub further : {W : Type 0} → ScriptProgress W → Answered W → ScriptProgress W
 further p answered = record { world = answered.world; lines = p.lines + 1; text = p.text ++ answered.text }
 
--- the progress p after the next line, which is answered as `define` says; `marks` says whether the
--- line was refused memory
-abbrev pub next_line : {W : Type 0} → LineAnswering W → Marks → ScriptProgress W → List ℕ → ScriptProgress W
-next_line define marks p line = further p (define (marks (p.lines + 1)) (p.lines + 1) line p.world)
+-- the progress p after the next line, which is answered as `define` says; `refused` says whether
+-- the line was refused memory
+abbrev pub next_line : {W : Type 0} → LineAnswering W → RefusedMemory → ScriptProgress W → List ℕ → ScriptProgress W
+next_line define refused p line = further p (define (refused (p.lines + 1)) (p.lines + 1) line p.world)
 
--- the progress after these lines, from the opening world `start`; the marked lines were refused
--- memory
-abbrev pub after_lines : {W : Type 0} → LineAnswering W → W → List (List ℕ) → Marks → ScriptProgress W
-after_lines define start lines marks = fold (next_line define marks) (beginning start) lines
+-- the progress after these lines, from the opening world `start`; `refused` says which lines were
+-- refused memory
+abbrev pub after_lines : {W : Type 0} → LineAnswering W → W → List (List ℕ) → RefusedMemory → ScriptProgress W
+after_lines define start lines refused = fold (next_line define refused) (beginning start) lines
 
--- the answers to these lines, one after another, from the opening world `start`; the marked lines
--- were refused memory
-abbrev pub answers_to : {W : Type 0} → LineAnswering W → W → List (List ℕ) → Marks → List ℕ
-answers_to define start lines marks = (after_lines define start lines marks).text
+-- the answers to these lines, one after another, from the opening world `start`; `refused` says
+-- which lines were refused memory
+abbrev pub answers_to : {W : Type 0} → LineAnswering W → W → List (List ℕ) → RefusedMemory → List ℕ
+answers_to define start lines refused = (after_lines define start lines refused).text
 
 -- a line was answered as `define` says, perhaps as one that was refused memory: the answer's text
 -- was added to `before`, which gives `after`, and the line turned the world `old` into `new`

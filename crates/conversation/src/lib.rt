@@ -7,7 +7,7 @@ pub mod answers;
 pub mod converse;
 pub mod fault;
 pub mod limits;
-pub mod saved_file;
 pub mod source;
 pub mod taken;
 pub mod writing;
+pub mod written_file;

@@ -9,7 +9,7 @@ use Rattle.schedule_trie.specs.Trie.{TrieOf, SegmentOf, segment, segment_at, slo
 use Rattle.schedule_trie.specs.Climbs.{keys_up_to}
 use Rattle.schedule_trie.proofs.lists.KeyPositions.{parting}
 use Rattle.schedule_trie.proofs.branches.Shared.{same_front}
-use Rattle.cutoff.specs.Fitting.{StoredRun, RunFits, KeepsRuns, IsChecked, IsOnWayTo, checked_segment, bare_run, run_at, slots_at, steps_at}
+use Rattle.cutoff.specs.Fitting.{StoredRun, RunFits, KeepsRuns, IsChecked, IsOnWayTo, with_checked, checked_segment, bare_run, run_at, slots_at, steps_at}
 use Rattle.cutoff.specs.Links.{IsGiven, IsStored, IsStoredIn, IsLinked, run_checked}
 use Rattle.cutoff.specs.Prefixes.{HasTrueRun, RunsDown, RunsTo, RunsToOnAll, AreFresh, exit_or_start, exit_or}
 use Rattle.cutoff.specs.Charts.{Charted, IsCharted, StepsFit}
@@ -28,18 +28,18 @@ module _ {R P : Type 0} (number : Option ℕ) where
   cells_checked None = refl
   cells_checked (Some p) = refl
 
-  run_checked_same : (o : Option (SegmentOf (StoredRun R P))) → option_map bare_run (note_of (option_map (checked_segment number) o)) ≡ option_map bare_run (note_of o)
-  run_checked_same None = refl
-  run_checked_same (Some p) = by p.note
+  bare_run-checked : (o : Option (SegmentOf (StoredRun R P))) → option_map bare_run (note_of (option_map (checked_segment number) o)) ≡ option_map bare_run (note_of o)
+  bare_run-checked None = refl
+  bare_run-checked (Some p) = by p.note
     where
-      by : (n : Option (StoredRun R P)) → option_map bare_run (option_map (λ s. record { run = s.run; id = s.id; link = s.link; checked = number }) n) ≡ option_map bare_run n
+      by : (n : Option (StoredRun R P)) → option_map bare_run (option_map (with_checked number) n) ≡ option_map bare_run n
       by None = refl
       by (Some s) = refl
 
   note_checked : (o : Option (SegmentOf (StoredRun R P))) (s : StoredRun R P) → note_of o ≡ Some s
-      → note_of (option_map (checked_segment number) o) ≡ Some (record { run = s.run; id = s.id; link = s.link; checked = number })
+      → note_of (option_map (checked_segment number) o) ≡ Some (with_checked number s)
   note_checked None s e = cc
-  note_checked (Some p) s e = ap (option_map (λ s. record { run = s.run; id = s.id; link = s.link; checked = number })) e
+  note_checked (Some p) s e = ap (option_map (with_checked number)) e
 
   stored_in-checked : (E : R → R → Bool) (h : R) (exits : List (Configuration ⊤ P)) → IsGiven (length exits) number → (o : Option (SegmentOf (StoredRun R P)))
       → IsStoredIn E h exits o → IsStoredIn E h exits (option_map (checked_segment number) o)
@@ -47,7 +47,7 @@ module _ {R P : Type 0} (number : Option ℕ) where
   stored_in-checked E h exits given (Some p) t = by p.note t
     where
       by : (n : Option (StoredRun R P)) → MatchOption n ⊤ (IsStored E h exits (map step_of p.slots))
-          → MatchOption (option_map (λ s. record { run = s.run; id = s.id; link = s.link; checked = number }) n) ⊤ (IsStored E h exits (map step_of p.slots))
+          → MatchOption (option_map (with_checked number) n) ⊤ (IsStored E h exits (map step_of p.slots))
       by None t = tt
       by (Some s) t = record { own = t.own; covers = t.covers; id = t.id; link = t.link; checked = given }
 
@@ -75,7 +75,7 @@ module _ {R P : Type 0} (old new : TrieOf (StoredRun R P)) (number : Option ℕ)
       by : (segment_at new.segments k ≡ segment_at old.segments k) ⊎ (IsOnWayTo old key k × (segment_at new.segments k ≡ option_map (checked_segment number) (segment_at old.segments k)))
           → run_at new k ≡ run_at old k
       by (inl e) = ap (λ o. option_map bare_run (note_of o)) e
-      by (inr e) = ap (λ o. option_map bare_run (note_of o)) e.1 ∙ run_checked_same number (segment_at old.segments k)
+      by (inr e) = ap (λ o. option_map bare_run (note_of o)) e.1 ∙ bare_run-checked number (segment_at old.segments k)
 
   checked_keeps : KeepsRuns old new (λ k. ⊥)
   checked_keeps = record { branches = checked.branches; limits = checked.limits; forest_kept = checked.unchanged; slots = slots_same; runs = λ k. inl (run_same k) }
@@ -101,7 +101,7 @@ module _ {R P : Type 0} (old new : TrieOf (StoredRun R P)) (number : Option ℕ)
           fits = subst (λ s. RunFits E c s h.stored.run) (steps_same k) h.fits;
         }
         by (inr e) = record {
-          stored = record { run = h.stored.run; id = h.stored.id; link = h.stored.link; checked = number };
+          stored = with_checked number h.stored;
           noted = ap note_of e.1 ∙ note_checked number (segment_at old.segments k) h.stored h.noted;
           true_run = h.true_run;
           fits = subst (λ s. RunFits E c s h.stored.run) (steps_same k) h.fits;
@@ -190,7 +190,7 @@ module _ {R P : Type 0} where
   with_note_checked number s again run id link checked None e = refl
   with_note_checked number s again run id link checked (Some p) e =
       ap (λ n. Some (segment p.slots n))
-      ((λ i. Some (record { run = run i; id = id i; link = link i; checked = checked i })) ∙ sym (ap (option_map (λ s. record { run = s.run; id = s.id; link = s.link; checked = number })) e))
+      ((λ i. Some (record { run = run i; id = id i; link = link i; checked = checked i })) ∙ sym (ap (option_map (with_checked number)) e))
 
   module _ (old trie new : TrieOf (StoredRun R P)) (number : Option ℕ) (key k : ℕ) (s again : StoredRun R P) (was : IsChecked old trie number key) (there : note_of (segment_at trie.segments k) ≡ Some s)
       (run : again.run ≡ s.run) (id : again.id ≡ s.id) (link : again.link ≡ s.link) (checked : again.checked ≡ number) (noted : IsNoted trie new k (Some again)) (way : IsOnWayTo old key k) where

@@ -8,7 +8,7 @@ use Rattle.frames.specs.Behaviour.{Behaviour}
 use Rattle.frames.specs.Configuration.{Configuration, replayed}
 use Rattle.frames.specs.Equality.{SameConfiguration}
 use Rattle.frames.specs.Recorded.{without_register}
-use Rattle.checkpoints.specs.Segment.{SegmentRun, IsRun}
+use Rattle.checkpoints.specs.Runs.{SegmentRun, IsTrueRun}
 use Rattle.std.proofs.lemmas.List.{length-append}
 use Rattle.schedule_trie.specs.Trie.{TrieOf, segment_at, note_of, keys_in, has, Once, IsCut}
 use Rattle.schedule_trie.specs.Climbs.{keys_up_to, keys_to, HasClimbedTo}
@@ -54,7 +54,7 @@ climb_missing E b trie k entry c keys at here there none d =
 
 -- if runs down to k lead to `entry`, the run s at k ends there, and those above lead to s's entry
 module _ {R P : Type 0} (E : R → R → Bool) (per : IsPartialEquivalence E) (is : R → Behaviour P) (alike : (x y : R) → E x y ≡ true → is x ≡ is y) (b : Behaviour P)
-    (trie : TrieOf (StoredRun R P)) (k : ℕ) (s : StoredRun R P) (noted : note_of (segment_at trie.segments k) ≡ Some s) (true_run : IsRun (is s.run.entry.register) s.run)
+    (trie : TrieOf (StoredRun R P)) (k : ℕ) (s : StoredRun R P) (noted : note_of (segment_at trie.segments k) ≡ Some s) (true_run : IsTrueRun (is s.run.entry.register) s.run)
     (entry : Configuration R P) where
   pub down_before : (c : Configuration R P) (front : List ℕ) → is c.register ≡ b → FitsDownTo E b trie c (front ++ k ∷ []) entry
       → SameConfiguration E entry s.run.exit × FitsDownTo E b trie c front s.run.entry
@@ -75,7 +75,7 @@ module _ {R P : Type 0} (E : R → R → Bool) (per : IsPartialEquivalence E) (b
       let home : E h s.run.entry.register ≡ true = per.symm h s.run.entry.register ∙ links.own in
       (cc, per.trans entry.register h s.run.entry.register own home)
 
-  pub ends_same : IsRun b s.run → (without_register entry ≡ without_register s.run.exit) → E entry.register s.run.entry.register ≡ true → SameConfiguration E entry s.run.exit
+  pub ends_same : IsTrueRun b s.run → (without_register entry ≡ without_register s.run.exit) → E entry.register s.run.entry.register ≡ true → SameConfiguration E entry s.run.exit
   ends_same true_run same own =
       let kept : s.run.exit.register ≡ s.run.entry.register = ap (λ c. c.register) true_run.exit ∙ register_kept b s.run.entry s.run.steps in
       same_with_register E entry s.run.exit (subst (λ r. E entry.register r ≡ true) (sym kept) own) same
@@ -89,7 +89,7 @@ linked_entry E h exits segment s links a linked = (subst (λ o. IsExitOf exits o
 -- and those above lead to the entry of the run at k
 module _ {R P : Type 0} (E : R → R → Bool) (per : IsPartialEquivalence E) (is : R → Behaviour P) (alike : (x y : R) → E x y ≡ true → is x ≡ is y)
     (trie : TrieOf (StoredRun R P)) (start entry : Configuration R P) (keys : List ℕ) (k : ℕ) (s : StoredRun R P) (noted : note_of (segment_at trie.segments k) ≡ Some s)
-    (true_run : IsRun (is s.run.entry.register) s.run) where
+    (true_run : IsTrueRun (is s.run.entry.register) s.run) where
   abbrev b : Behaviour P
   b = is start.register
 
@@ -163,7 +163,7 @@ module _ {R P : Type 0} (E : R → R → Bool) (per : IsPartialEquivalence E) (i
 -- the run stored at `above` ends at `entry`, so that run's number is that of a run with this exit
 pub number_linked : {R P : Type 0} (E : R → R → Bool) (per : IsPartialEquivalence E) (is : R → Behaviour P) (alike : (x y : R) → E x y ≡ true → is x ≡ is y)
     (trie : TrieOf (StoredRun R P)) (start entry : Configuration R P) (keys : List ℕ) (above : Option ℕ) (next : ℕ) (o : Option (StoredRun R P)) → HasClimbedTo keys above
-    → note_if_any trie above ≡ o → IfSome o (λ s. IsRun (is s.run.entry.register) s.run)
+    → note_if_any trie above ≡ o → IfSome o (λ s. IsTrueRun (is s.run.entry.register) s.run)
     → FitsDownTo E (is start.register) trie start (keys_to keys above) entry → IsLinked E start.register next None (without_register start) trie
     → IsLinked E start.register next (run_number o) (without_register entry) trie
 number_linked E per is alike trie start entry keys above next None h e true_run d l = record { exits = l.exits; as_many = l.as_many; each = l.each; reached_exit = tt }

@@ -7,7 +7,7 @@ use Rattle.frames.specs.Configuration.{Configuration, replayed}
 use Rattle.schedule_trie.specs.Forest.{step_of}
 use Rattle.schedule_trie.specs.Trie.{TrieOf, segment_at, slots_of, note_of}
 use Rattle.schedule_trie.proofs.lists.NoRepeats.{has-head, has-tail}
-use Rattle.checkpoints.specs.Segment.{SegmentRun}
+use Rattle.checkpoints.specs.Runs.{SegmentRun}
 use Rattle.cutoff.specs.Fitting.{StoredRun, RunPart, RunFits, Fits, bare_run, steps_at}
 use Rattle.cutoff.specs.Settles.{ReplaysIfNeeded, Settles}
 use Rattle.cutoff.specs.EarlyCutoff.{AreKept, AreFitted, replayed_through, StopsEarly}

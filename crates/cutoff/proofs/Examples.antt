@@ -7,7 +7,7 @@ use Rattle.frames.specs.declared.safe.SafePoint.{SafePoint}
 use Rattle.frames.specs.SafeBit.{safe_behaviour}
 use Rattle.frames.specs.Configuration.{Configuration, initial_configuration, replayed, history}
 use Rattle.frames.specs.Equality.{SameConfiguration}
-use Rattle.checkpoints.specs.Segment.{SegmentRun}
+use Rattle.checkpoints.specs.Runs.{SegmentRun}
 use Rattle.schedule_trie.specs.Forest.{slot}
 use Rattle.schedule_trie.specs.Trie.{TrieOf, SegmentOf, keyed_branch, segment, segment_at, note_of, with_note}
 use Rattle.cutoff.specs.Fitting.{StoredRun, RunPart, IsOnWayTo, checked_segment}

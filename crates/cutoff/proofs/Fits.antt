@@ -8,7 +8,7 @@ use Rattle.frames.specs.Behaviour.{Behaviour}
 use Rattle.frames.specs.Configuration.{Configuration, stepped, replayed}
 use Rattle.frames.specs.Equality.{SameConfiguration}
 use Rattle.frames.specs.Recorded.{without_register}
-use Rattle.checkpoints.specs.Segment.{SegmentRun, IsRun}
+use Rattle.checkpoints.specs.Runs.{SegmentRun, IsTrueRun}
 use Rattle.schedule_trie.specs.Forest.{step_of}
 use Rattle.schedule_trie.specs.Trie.{TrieOf, SegmentOf, segment_at, slots_of, note_of}
 use Rattle.cutoff.specs.Fitting.{StoredRun, bare_run, RunFits, Fits, steps_at, run_at}
@@ -61,7 +61,7 @@ module _ {R P : Type 0} (E : R → R → Bool) where
 
   -- the exit of a run that fits is the configuration that replay of the segment reaches
   pub exit_same : (is : R → Behaviour P) → ((x y : R) → E x y ≡ true → is x ≡ is y) → (b : Behaviour P) (c : Configuration R P) (segment : List Step) (run : SegmentRun R P)
-      → is c.register ≡ b → IsRun (is run.entry.register) run → RunFits E c segment run → SameConfiguration E run.exit (replayed b c segment)
+      → is c.register ≡ b → IsTrueRun (is run.entry.register) run → RunFits E c segment run → SameConfiguration E run.exit (replayed b c segment)
   exit_same is alike b c segment run home true_run f =
       let same : is run.entry.register ≡ b = alike run.entry.register c.register f.entry.register ∙ home in
       let exit : run.exit ≡ replayed b run.entry segment = true_run.exit ∙ ap (λ x. replayed x run.entry run.steps) same ∙ ap (replayed b run.entry) f.steps in

@@ -8,7 +8,7 @@ use Rattle.frames.specs.Configuration.{Configuration, replayed}
 use Rattle.schedule_trie.specs.Forest.{step_of}
 use Rattle.schedule_trie.specs.Trie.{TrieOf, segment_at, note_of, slots_of, keys_in, has, Linked, Once, IsCut, IsNoted}
 use Rattle.schedule_trie.specs.Climbs.{keys_up_to}
-use Rattle.checkpoints.specs.Segment.{IsRun}
+use Rattle.checkpoints.specs.Runs.{IsTrueRun}
 use Rattle.schedule_trie.proofs.branches.Shared.{same_front}
 use Rattle.schedule_trie.proofs.climbs.Climbs.{up_to-here}
 use Rattle.schedule_trie.proofs.lists.NoRepeats.{has-in}
@@ -121,7 +121,7 @@ on_all_from_one E is trie start i k whole down = λ j h.
 pub fresh_next : {R P : Type 0} (E : R → R → Bool) (equal : IsEquivalence E) (per : IsPartialEquivalence E) (is : R → Behaviour P) (alike : (x y : R) → E x y ≡ true → is x ≡ is y)
     {old trie new : TrieOf (StoredRun R P)} {start : Configuration R P} {key count : ℕ} {back : List ℕ} {place n : ℕ} {above : Option ℕ} (i : ℕ) (all : List ℕ) (index : ℕ) (more : List ℕ)
     → (g : IsRestWalk E is old trie start key count (keys_in old.branches i) (drop index all ++ more) back place n above) (h : index < length all) {o : Option (StoredRun R P)} {s : StoredRun R P} {work : ℕ}
-    → note_if_any trie above ≡ o → IsSegmentSettled E trie new (exit_or start (option_map bare_run o)) (get_or all index 0) s work × IsRun (is s.run.entry.register) s.run → IsCut old
+    → note_if_any trie above ≡ o → IsSegmentSettled E trie new (exit_or start (option_map bare_run o)) (get_or all index 0) s work × IsTrueRun (is s.run.entry.register) s.run → IsCut old
     → (first : Option ℕ) → AreFresh E is trie start first → AreFresh E is new start first
 fresh_next E equal per is alike {old} {trie} {new} {start} i all index more g h {s = s} above_is settled whole first was =
     let keeps = (rest_walk_next E equal per is alike all index more g h above_is settled).walk.keeps in

@@ -6,7 +6,7 @@ use Rattle.frames.specs.Behaviour.{Behaviour}
 use Rattle.frames.specs.Configuration.{Configuration, replayed}
 use Rattle.frames.specs.Equality.{SameConfiguration}
 use Rattle.frames.specs.Recorded.{without_register}
-use Rattle.checkpoints.specs.Segment.{IsRun}
+use Rattle.checkpoints.specs.Runs.{IsTrueRun}
 use Rattle.schedule_trie.specs.Forest.{step_of}
 use Rattle.schedule_trie.specs.Trie.{TrieOf, segment_at, slots_of, note_of, keys_in, has}
 use Rattle.schedule_trie.specs.Climbs.{keys_up_to, keys_to, HasClimbedTo}
@@ -27,12 +27,12 @@ module _ {R P : Type 0} (E : R → R → Bool) (is : R → Behaviour P) (trie : 
   pub record HasLinked (k : ℕ) (link : Option ℕ) : Type 0 where
     pub stored : StoredRun R P
     pub noted : note_of (segment_at trie.segments k) ≡ Some stored
-    pub true_run : IsRun (is stored.run.entry.register) stored.run
+    pub true_run : IsTrueRun (is stored.run.entry.register) stored.run
     pub linked : stored.link ≡ link
 
   -- one more hangs, from the run whose number is its link
   pub hung_more : IsPartialEquivalence E → (hung k key i next a : ℕ) (start : Configuration R P) (at link : Option ℕ) (s : StoredRun R P) → IsLinked E start.register next None (without_register start) trie
-      → HasLinked hung link → note_of (segment_at trie.segments k) ≡ Some s → IsRun (is s.run.entry.register) s.run → link ≡ Some a → s.id ≡ Some a → at ≡ Some k
+      → HasLinked hung link → note_of (segment_at trie.segments k) ≡ Some s → IsTrueRun (is s.run.entry.register) s.run → link ≡ Some a → s.id ≡ Some a → at ≡ Some k
       → IsStepUp (keys_in trie.branches i) hung at → IsHung E is trie hung key i → IsHung E is trie k key i
   hung_more per hung k key i next a start at link s links was noted true_run linked numbered here step h =
       let u = was.stored in

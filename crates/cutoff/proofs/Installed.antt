@@ -5,7 +5,7 @@ use Rattle.std.specs.Cmp.{IsPartialEquivalence}
 use Rattle.frames.specs.Behaviour.{Behaviour}
 use Rattle.frames.specs.Configuration.{Configuration, replayed}
 use Rattle.frames.specs.Recorded.{without_register}
-use Rattle.checkpoints.specs.Segment.{SegmentRun, IsRun}
+use Rattle.checkpoints.specs.Runs.{SegmentRun, IsTrueRun}
 use Rattle.schedule_trie.specs.Forest.{step_of}
 use Rattle.schedule_trie.specs.Trie.{TrieOf, segment_at, note_of, keys_in, has, Once, IsCut, IsNoted}
 use Rattle.schedule_trie.proofs.lists.NoRepeats.{once_before}
@@ -47,7 +47,7 @@ module _ {R P : Type 0} (E : R → R → Bool) (b : Behaviour P) where
 -- an installed run's segment can be marked, if the runs above lead to the run's entry
 module _ {R P : Type 0} (E : R → R → Bool) (per : IsPartialEquivalence E) (is : R → Behaviour P) (alike : (x y : R) → E x y ≡ true → is x ≡ is y) (old new : TrieOf (StoredRun R P))
     (start : Configuration R P) (key : ℕ) (s : StoredRun R P) (whole : IsCut old) (noted : IsNoted old new key (Some s)) (there : IsSome (segment_at old.segments key))
-    (true_run : IsRun (is s.run.entry.register) s.run) (covers : s.run.steps ≡ steps_at old key) where
+    (true_run : IsTrueRun (is s.run.entry.register) s.run) (covers : s.run.steps ≡ steps_at old key) where
   abbrev b : Behaviour P
   b = is start.register
 
@@ -75,7 +75,7 @@ given_id (inl e) = inl e.0
 given_id (inr e) = inr e.0
 
 pub charted_installed : {R P : Type 0} (E : R → R → Bool) (per : IsPartialEquivalence E) (is : R → Behaviour P) (alike : (x y : R) → E x y ≡ true → is x ≡ is y) (next after : ℕ) (fresh mark : Option ℕ) (c : Charted R P) (new : TrieOf (StoredRun R P)) (key : ℕ) (s : StoredRun R P) (run seen : SegmentRun R P) (keys : List ℕ) (id : Option ℕ)
-    → IsCharted E is next fresh mark c → FitsDown E (is c.start.register) c.trie key seen c.start keys → RunsLeadTo E is c.trie c.start key seen → IsRun (is seen.entry.register) seen
+    → IsCharted E is next fresh mark c → FitsDown E (is c.start.register) c.trie key seen c.start keys → RunsLeadTo E is c.trie c.start key seen → IsTrueRun (is seen.entry.register) seen
     → IsSome (segment_at c.trie.segments key) → seen ≡ run → s.run ≡ run → s.id ≡ id → s.checked ≡ id → (above : Option ℕ) → s.link ≡ above
     → (IsLinked E c.start.register next None (without_register c.start) c.trie → IsLinked E c.start.register next above (without_register seen.entry) c.trie) → IsNoted c.trie new key (Some s)
     → ((id ≡ None) × (after ≡ next)) ⊎ ((id ≡ Some next) × (after ≡ next + 1))
@@ -87,7 +87,7 @@ charted_installed {R} {P} E per is alike next after fresh mark c new key s run s
     (subst (λ (r : SegmentRun R P). IsLinked E c.start.register next above (without_register r.entry) c.trie) (same ∙ sym is_run) (moved was.linked)) s noted after (checked ∙ sym number)
     owns.0 owns.1 link refl (subst (λ n. ((n ≡ None) × (after ≡ next)) ⊎ ((n ≡ Some next) × (after ≡ next + 1))) (sym number) given) in
     let marked =
-    mark_installed E per is alike c.trie new c.start key s was.cut noted there (subst (λ (r : SegmentRun R P). IsRun (is r.entry.register) r) (same ∙ sym is_run) true_run) owns.1
+    mark_installed E per is alike c.trie new c.start key s was.cut noted there (subst (λ (r : SegmentRun R P). IsTrueRun (is r.entry.register) r) (same ∙ sym is_run) true_run) owns.1
     (subst (RunsLeadTo E is c.trie c.start key) (same ∙ sym is_run) on) in
     let still =
     fresh_kept E is c.trie new c.start key s was.cut noted (option_or fresh id) marked

@@ -11,7 +11,7 @@ use Rattle.schedule_trie.proofs.climbs.Climbs.{up_to-here}
 use Rattle.schedule_trie.proofs.lists.NoRepeats.{has-in}
 use Rattle.schedule_trie.proofs.lists.KeyPositions.{parting}
 use Rattle.cutoff.specs.Fitting.{StoredRun, RunPart, part_of_stored, reached, KeepsRuns}
-use Rattle.cutoff.specs.Settles.{Settles, IsFilled, SettlesTo, IsSettledLast, last_part}
+use Rattle.cutoff.specs.Settles.{Settles, GetsRun, SettlesTo, IsSettledLast, last_part}
 use Rattle.cutoff.specs.Links.{IsLinked}
 use Rattle.cutoff.specs.Prefixes.{AreFresh, RunsTo, RunsToOnAll, IsPlaceIn, note_if_any}
 use Rattle.cutoff.specs.Charts.{Charted, IsCharted, keys_at, keys_named, reached_by}
@@ -100,12 +100,12 @@ last_settled E is old new name place key count i n o found s stored =
       ap last_part s.last.is ∙ last_of_parts s.last.before (part_of_stored count s.last.stored) ∙ ap (option_map (part_of_stored count)) (sym (stored ∙ s.last.noted)),
     )
 
--- what a settle keeps or fills, with the branch given by its name instead of its index
+-- which runs a settle keeps or stores, with the branch given by its name instead of its index
 pub keeps_named : {R P : Type 0} (E : R → R → Bool) (is : R → Behaviour P) (v : Charted R P) (old new : TrieOf (StoredRun R P)) (start : Configuration R P) (value : ℕ)
     → ◌≡◌ {A = Charted R P} (record { trie = old; start = start; value = value }) v → (name : List ℕ) (place i : ℕ) → index_of (forest old).branches name ≡ Some i
-    → KeepsRuns old new (IsFilled E (is start.register) old new start (reached old place (keys_in old.branches i)))
-    → KeepsRuns v.trie new (IsFilled E (is v.start.register) v.trie new v.start (reached_by v.trie name place))
+    → KeepsRuns old new (GetsRun E (is start.register) old new start (reached old place (keys_in old.branches i)))
+    → KeepsRuns v.trie new (GetsRun E (is v.start.register) v.trie new v.start (reached_by v.trie name place))
 keeps_named {R} {P} E is v old new start value same name place i found keeps =
     let named : keys_named old name ≡ keys_in old.branches i = ap (λ o. keys_at o old.branches) found in
-    subst (λ (w : Charted R P). KeepsRuns w.trie new (IsFilled E (is w.start.register) w.trie new w.start (reached_by w.trie name place))) same
-    (subst (λ ks. KeepsRuns old new (IsFilled E (is start.register) old new start (reached old place ks))) (sym named) keeps)
+    subst (λ (w : Charted R P). KeepsRuns w.trie new (GetsRun E (is w.start.register) w.trie new w.start (reached_by w.trie name place))) same
+    (subst (λ ks. KeepsRuns old new (GetsRun E (is start.register) old new start (reached old place ks))) (sym named) keeps)

@@ -22,7 +22,7 @@ pub mod FreshRuns
 pub mod Installed
 pub mod Checks
 pub mod Plans
-pub mod Sights
+pub mod FoundFits
 pub mod Edited
 pub mod Marks
 pub mod LimbFits

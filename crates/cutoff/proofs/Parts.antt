@@ -8,7 +8,7 @@ use Rattle.std.proofs.Math.Seq.{drop-cons}
 use Rattle.std.proofs.lemmas.List.{drop_all}
 use Rattle.frames.specs.Behaviour.{Behaviour}
 use Rattle.frames.specs.Configuration.{Configuration, replayed}
-use Rattle.checkpoints.specs.Segment.{SegmentRun}
+use Rattle.checkpoints.specs.Runs.{SegmentRun}
 use Rattle.schedule_trie.specs.Forest.{index_of}
 use Rattle.schedule_trie.specs.Trie.{TrieOf, forest, keys_in}
 use Rattle.cutoff.specs.Fitting.{StoredRun, RunPart, KeepsRuns, steps_at, run_at, reached, part_of, parts_of}

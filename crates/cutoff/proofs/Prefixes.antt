@@ -6,7 +6,7 @@ use Rattle.frames.specs.Behaviour.{Behaviour}
 use Rattle.frames.specs.Configuration.{Configuration, replayed}
 use Rattle.frames.specs.Equality.{SameConfiguration}
 use Rattle.frames.specs.Recorded.{without_register}
-use Rattle.checkpoints.specs.Segment.{IsRun}
+use Rattle.checkpoints.specs.Runs.{IsTrueRun}
 use Rattle.schedule_trie.specs.Trie.{TrieOf, segment_at, note_of, has, slots_of}
 use Rattle.schedule_trie.specs.Climbs.{keys_to, keys_up_to}
 use Rattle.schedule_trie.specs.Forest.{step_of}
@@ -56,7 +56,7 @@ module _ {R P : Type 0} (E : R → R → Bool) (per : IsPartialEquivalence E) (i
   runs_fit b c [] end d = d
   runs_fit b c (k ∷ ks) end d = (fits_from_run_fits E trie c k d.0.stored d.0.noted d.0.fits, runs_fit b (replayed b c (steps_at trie k)) ks end d.1)
 
-  module _ (k : ℕ) (s : StoredRun R P) (noted : note_of (segment_at trie.segments k) ≡ Some s) (true_run : IsRun (is s.run.entry.register) s.run) (covers : s.run.steps ≡ steps_at trie k) where
+  module _ (k : ℕ) (s : StoredRun R P) (noted : note_of (segment_at trie.segments k) ≡ Some s) (true_run : IsTrueRun (is s.run.entry.register) s.run) (covers : s.run.steps ≡ steps_at trie k) where
     pub down_more : (b : Behaviour P) (c : Configuration R P) (keys : List ℕ) → is c.register ≡ b → RunsDown E is trie b c keys s.run.entry → RunsDown E is trie b c (keys ++ k ∷ []) s.run.exit
     down_more b c [] home d =
         let fits : RunFits E c (steps_at trie k) s.run = record { steps = covers; entry = d } in
@@ -89,7 +89,7 @@ climb_key_differs f k at stop e here differs same =
 -- number is that of a run with this exit
 module _ {R P : Type 0} (E : R → R → Bool) (equal : IsEquivalence E) (per : IsPartialEquivalence E) (is : R → Behaviour P) (trie : TrieOf (StoredRun R P)) (start : Configuration R P) (next : ℕ)
     (linked : IsLinkedAt E start next None trie) where
-  entry_own : (key : Option ℕ) (above : Option (StoredRun R P)) → note_if_any trie key ≡ above → IfSome above (λ s. IsRun (is s.run.entry.register) s.run)
+  entry_own : (key : Option ℕ) (above : Option (StoredRun R P)) → note_if_any trie key ≡ above → IfSome above (λ s. IsTrueRun (is s.run.entry.register) s.run)
       → E (exit_or start (option_map bare_run above)).register start.register ≡ true
   entry_own key None noted kept = equal.refl start.register
   entry_own None (Some s) noted kept = cc
@@ -97,7 +97,7 @@ module _ {R P : Type 0} (E : R → R → Bool) (equal : IsEquivalence E) (per : 
       let same : s.run.exit.register ≡ s.run.entry.register = ap (λ d. d.register) kept.exit ∙ register_kept (is s.run.entry.register) s.run.entry s.run.steps in
       subst (λ r. E r start.register ≡ true) (sym same) (stored-from_stored_in E start.register linked.exits trie k s (linked.each k) noted).own
 
-  entry_linked : (key : Option ℕ) (above : Option (StoredRun R P)) → note_if_any trie key ≡ above → IfSome above (λ s. IsRun (is s.run.entry.register) s.run)
+  entry_linked : (key : Option ℕ) (above : Option (StoredRun R P)) → note_if_any trie key ≡ above → IfSome above (λ s. IsTrueRun (is s.run.entry.register) s.run)
       → IsLinkedAt E (exit_or start (option_map bare_run above)) next (run_number above) trie
   entry_linked key None noted kept = linked
   entry_linked None (Some s) noted kept = cc
@@ -106,7 +106,7 @@ module _ {R P : Type 0} (E : R → R → Bool) (equal : IsEquivalence E) (per : 
       linked_equal E per start.register s.run.exit.register next s.id (without_register s.run.exit) trie (per.symm start.register s.run.exit.register ∙ own)
       (record { exits = linked.exits; as_many = linked.as_many; each = linked.each; reached_exit = (stored-from_stored_in E start.register linked.exits trie k s (linked.each k) noted).id })
 
-  pub config_linked : (key : Option ℕ) (above : Option (StoredRun R P)) → note_if_any trie key ≡ above → IfSome above (λ s. IsRun (is s.run.entry.register) s.run)
+  pub config_linked : (key : Option ℕ) (above : Option (StoredRun R P)) → note_if_any trie key ≡ above → IfSome above (λ s. IsTrueRun (is s.run.entry.register) s.run)
       → (config : Configuration R P) (number : Option ℕ) → config ≡ exit_or start (option_map bare_run above) → number ≡ run_number above
       → IsLinkedAt E config next number trie × (E config.register start.register ≡ true)
   config_linked key above noted kept config number came numbered = rw (came, numbered) (entry_linked key above noted kept, entry_own key above noted kept)

@@ -9,7 +9,7 @@ use Rattle.frames.specs.Behaviour.{Behaviour}
 use Rattle.frames.specs.Configuration.{Configuration, replayed}
 use Rattle.frames.specs.Equality.{SameConfiguration}
 use Rattle.frames.specs.Recorded.{AllFit}
-use Rattle.checkpoints.specs.Segment.{SegmentRun, IsRun}
+use Rattle.checkpoints.specs.Runs.{SegmentRun, IsTrueRun}
 use Rattle.schedule_trie.specs.Forest.{step_of}
 use Rattle.schedule_trie.specs.Trie.{TrieOf, SegmentOf, segment_at, slots_of, note_of, line, has, Once, keys_in, IsCut}
 use Rattle.schedule_trie.specs.Climbs.{keys_up_to, keys_to, last_from}
@@ -88,7 +88,7 @@ module _ {R P : Type 0} (E : R → R → Bool) (equal : IsEquivalence E) (per : 
   lacks_here = once_before g.done k (ks ++ back) (subst Once g.whole g.once)
 
   module _ (new : TrieOf (StoredRun R P)) (s : StoredRun R P) (work : ℕ) (settled : IsSegmentSettled E trie new (exit_or_start trie start above) k s work)
-      (true_run : IsRun (is s.run.entry.register) s.run) where
+      (true_run : IsTrueRun (is s.run.entry.register) s.run) where
     abbrev run : SegmentRun R P
     run = s.run
 
@@ -310,7 +310,7 @@ module _ {R P : Type 0} (E : R → R → Bool) (equal : IsEquivalence E) (per : 
 
     -- `o` is stored right above
     module _ {new : TrieOf (StoredRun R P)} {o : Option (StoredRun R P)} {s : StoredRun R P} {work : ℕ} (above_is : note_if_any trie above ≡ o)
-        (settled : IsSegmentSettled E trie new (exit_or start (option_map bare_run o)) (get_or all index 0) s work × IsRun (is s.run.entry.register) s.run) where
+        (settled : IsSegmentSettled E trie new (exit_or start (option_map bare_run o)) (get_or all index 0) s work × IsTrueRun (is s.run.entry.register) s.run) where
       settled_here : IsSegmentSettled E trie new (exit_or_start trie start above) (get_or all index 0) s work
       settled_here = subst (λ p. IsSegmentSettled E trie new (exit_or start (option_map bare_run p)) (get_or all index 0) s work) (sym above_is) settled.0
 

@@ -7,7 +7,7 @@ use Rattle.frames.specs.Recorded.{without_register}
 use Rattle.schedule_trie.specs.declared.slot.Slot.{Slot}
 use Rattle.schedule_trie.specs.Trie.{TrieOf, SegmentOf, segment_at, note_of, forest, has, keys_in, SharesAbove, IsCut}
 use Rattle.cutoff.specs.Fitting.{StoredRun, KeepsRuns}
-use Rattle.cutoff.specs.Settles.{IsFilled}
+use Rattle.cutoff.specs.Settles.{GetsRun}
 use Rattle.cutoff.specs.Links.{IsLinked}
 use Rattle.cutoff.specs.Prefixes.{RunsToOnAll, AreFresh}
 use Rattle.cutoff.specs.Known.{AreKnown, IsKnownDownTo}
@@ -75,10 +75,10 @@ chart_known E is next known c was = record { linked = (next, was.linked); cut = 
     by k (inl here) = subst (RunsToOnAll E is c.trie c.start) here was.marked
     by k (inr late) = subst (AreFresh E is c.trie c.start) late.3 was.fresh_marked k late.0 late.2 late.4
 
--- a trie that equals `trie` keeps and fills what `trie` does
+-- a trie that equals `trie` keeps and gets the runs that `trie` does
 pub keeps_still : {R P : Type 0} (E : R → R → Bool) (b : Behaviour P) (old : TrieOf (StoredRun R P)) (start : Configuration R P) (ks : List ℕ) {trie new : TrieOf (StoredRun R P)} → new ≡ trie
-    → KeepsRuns old trie (IsFilled E b old trie start ks) → KeepsRuns old new (IsFilled E b old new start ks)
-keeps_still E b old start ks same = subst (λ t. KeepsRuns old t (IsFilled E b old t start ks)) (sym same)
+    → KeepsRuns old trie (GetsRun E b old trie start ks) → KeepsRuns old new (GetsRun E b old new start ks)
+keeps_still E b old start ks same = subst (λ t. KeepsRuns old t (GetsRun E b old t start ks)) (sym same)
 
 -- a chart as its contract sees it, and its fields
 module _ {R P : Type 0} {v w : Charted R P} (seen : v ≡ w) where
@@ -87,5 +87,5 @@ module _ {R P : Type 0} {v w : Charted R P} (seen : v ≡ w) where
   seen_begins E is next fresh mark was = subst (λ (c : Charted R P). c.start ≡ initial_configuration (is c.start.register) c.start.register c.value) seen was.begins
 
 -- a trie that doesn't change keeps its runs
-pub all_kept : {R P : Type 0} (trie : TrieOf (StoredRun R P)) (Filled : ℕ → Type 0) → KeepsRuns trie trie Filled
-all_kept trie Filled = record { branches = refl; limits = refl; forest_kept = refl; slots = λ k. refl; runs = λ k. inl refl }
+pub all_kept : {R P : Type 0} (trie : TrieOf (StoredRun R P)) (Gets : ℕ → Type 0) → KeepsRuns trie trie Gets
+all_kept trie Gets = record { branches = refl; limits = refl; forest_kept = refl; slots = λ k. refl; runs = λ k. inl refl }

@@ -10,13 +10,13 @@ use Rattle.std.proofs.lemmas.List.{length-append, length-map, map-append}
 use Rattle.frames.specs.Behaviour.{Behaviour}
 use Rattle.frames.specs.Configuration.{Configuration, replayed, fits_step}
 use Rattle.frames.specs.Equality.{SameConfiguration}
-use Rattle.checkpoints.specs.Segment.{SegmentRun, IsRun}
+use Rattle.checkpoints.specs.Runs.{SegmentRun, IsTrueRun}
 use Rattle.frames.specs.Recorded.{AllFit}
 use Rattle.schedule_trie.specs.Forest.{step_of}
 use Rattle.schedule_trie.specs.Trie.{TrieOf, SegmentOf, segment_at, slots_of, note_of, line, has, Once, keys_in, IsNoted, IsCut}
 use Rattle.schedule_trie.proofs.lists.NoRepeats.{has-head, has-tail, Once-from_linked}
 use Rattle.cutoff.specs.Fitting.{StoredRun, RunPart, bare_run, RunFits, Fits, KeepsRuns, steps_at, slots_at, run_at, reached, counted, part_of}
-use Rattle.cutoff.specs.Settles.{ReplaysIfNeeded, IsSettledAt, IsSegmentSettled, Settles, IsFilled}
+use Rattle.cutoff.specs.Settles.{ReplaysIfNeeded, IsSettledAt, IsSegmentSettled, Settles, GetsRun}
 use Rattle.cutoff.proofs.Fits.{register_kept, same_symm, run_fits_alike, fits_alike, exit_same}
 use Rattle.cutoff.proofs.Lists.{all_left, all_right}
 use Rattle.cutoff.proofs.Keys.{by_key, lacks_cons}
@@ -45,12 +45,12 @@ module _ {R P : Type 0} where
   counted-last [] p = omega arith
   counted-last (q ∷ parts) p = let e : counted (parts ++ p ∷ []) ≡ counted parts + p.count = counted-last parts p in omega arith
 
--- a segment stays filled if its stored run stays
-filled_still : {R P : Type 0} (E : R → R → Bool) (b : Behaviour P) (old trie new : TrieOf (StoredRun R P)) (c : Configuration R P) (ks : List ℕ) (k : ℕ)
-    → run_at new k ≡ run_at trie k → IsFilled E b old trie c ks k → IsFilled E b old new c ks k
-filled_still E b old trie new c [] k same f = f
-filled_still E b old trie new c (j ∷ js) k same (inl f) = inl (f.0, f.1, (f.2.0, ap (run_at new) (sym f.0) ∙ same ∙ ap (run_at trie) f.0 ∙ f.2.1, f.2.2))
-filled_still E b old trie new c (j ∷ js) k same (inr f) = inr (filled_still E b old trie new (replayed b c (steps_at old j)) js k same f)
+-- a segment that gets a run (`GetsRun`) still does if its stored run stays
+gets_still : {R P : Type 0} (E : R → R → Bool) (b : Behaviour P) (old trie new : TrieOf (StoredRun R P)) (c : Configuration R P) (ks : List ℕ) (k : ℕ)
+    → run_at new k ≡ run_at trie k → GetsRun E b old trie c ks k → GetsRun E b old new c ks k
+gets_still E b old trie new c [] k same f = f
+gets_still E b old trie new c (j ∷ js) k same (inl f) = inl (f.0, f.1, (f.2.0, ap (run_at new) (sym f.0) ∙ same ∙ ap (run_at trie) f.0 ∙ f.2.1, f.2.2))
+gets_still E b old trie new c (j ∷ js) k same (inr f) = inr (gets_still E b old trie new (replayed b c (steps_at old j)) js k same f)
 
 -- a walk has passed the runs `parts` and replayed n steps; the segments `left` and `rest` cells are
 -- still to go
@@ -59,11 +59,11 @@ pub record IsWalking {R P : Type 0} (E : R → R → Bool) (b : Behaviour P) (ol
   pub at : Configuration R P
   pub same_register : at.register ≡ start.register
   pub same : SameConfiguration E (exit_of start parts) at
-  pub keeps : KeepsRuns old trie (IsFilled E b old trie start (reached old place keys))
+  pub keeps : KeepsRuns old trie (GetsRun E b old trie start (reached old place keys))
   pub ahead : (k : ℕ) → has k left ≡ true → segment_at trie.segments k ≡ segment_at old.segments k
   pub there : (k : ℕ) → has k left ≡ true → IsSome (segment_at old.segments k)
   pub small : (k : ℕ) → length (steps_at old k) ≤ 128
-  pub filled : (new : TrieOf (StoredRun R P)) (k : ℕ) → IsFilled E b old new at (reached old rest left) k → IsFilled E b old new start (reached old place keys) k
+  pub gets : (new : TrieOf (StoredRun R P)) (k : ℕ) → GetsRun E b old new at (reached old rest left) k → GetsRun E b old new start (reached old place keys) k
   pub settles : (new : TrieOf (StoredRun R P)) (more : List (RunPart R P)) (m : ℕ) → ((k : ℕ) → has k left ≡ false → run_at new k ≡ run_at trie k)
       → Settles E b old new at rest (reached old rest left) more m → Settles E b old new start place (reached old place keys) (parts ++ more) (n + m)
   pub count : counted parts + rest ≡ place
@@ -92,7 +92,7 @@ module _ {R P : Type 0} (E : R → R → Bool) (equal : IsEquivalence E) (b : Be
     ahead = λ k h. refl;
     there = λ k h. whole.held branch.0 k (subst (λ l. has k l ≡ true) branch.1 h);
     small = small_steps whole;
-    filled = λ new k f. f;
+    gets = λ new k f. f;
     settles = λ new more m same s. let e : m ≡ 0 + m = omega arith in subst (Settles E b old new start place (reached old place keys) more) e s;
     count = omega arith;
     enough = within;
@@ -142,7 +142,7 @@ module _ {R P : Type 0} (E : R → R → Bool) (equal : IsEquivalence E) (per : 
       by false e = reached_cons false e refl
 
   module _ (new : TrieOf (StoredRun R P)) (s : StoredRun R P) (work count rest_after n_after : ℕ) (settled : IsSegmentSettled E trie new (exit_of start parts) k s work)
-      (true_run : IsRun (is s.run.entry.register) s.run) (counts : count ≡ min rest (length s.run.steps)) (less : rest_after ≡ rest - count) (more_work : n_after ≡ n + work) where
+      (true_run : IsTrueRun (is s.run.entry.register) s.run) (counts : count ≡ min rest (length s.run.steps)) (less : rest_after ≡ rest - count) (more_work : n_after ≡ n + work) where
     abbrev run : SegmentRun R P
     run = s.run
 
@@ -194,23 +194,23 @@ module _ {R P : Type 0} (E : R → R → Bool) (equal : IsEquivalence E) (per : 
     rest_is : rest_after ≡ rest - length (steps_at old k)
     rest_is = let e : length run.steps ≡ length (steps_at old k) = run_len in omega arith
 
-    filled_here : (last : TrieOf (StoredRun R P)) (j : ℕ) → IsFilled E (is start.register) old last w.at (k ∷ reached old (rest - length (steps_at old k)) ks) j
-        → IsFilled E (is start.register) old last start (reached old place keys) j
-    filled_here last j m = w.filled last j (subst (λ l. IsFilled E (is start.register) old last w.at l j) (sym reached_is) m)
+    gets_here : (last : TrieOf (StoredRun R P)) (j : ℕ) → GetsRun E (is start.register) old last w.at (k ∷ reached old (rest - length (steps_at old k)) ks) j
+        → GetsRun E (is start.register) old last start (reached old place keys) j
+    gets_here last j m = w.gets last j (subst (λ l. GetsRun E (is start.register) old last w.at l j) (sym reached_is) m)
 
-    runs_kept : (j : ℕ) → (run_at new j ≡ run_at old j) ⊎ IsFilled E (is start.register) old new start (reached old place keys) j
+    runs_kept : (j : ℕ) → (run_at new j ≡ run_at old j) ⊎ GetsRun E (is start.register) old new start (reached old place keys) j
     runs_kept j = by_key j k _ here (λ ne. other ne (w.keeps.runs j))
       where
-        other : (j ≡ k → ⊥) → (run_at trie j ≡ run_at old j) ⊎ IsFilled E (is start.register) old trie start (reached old place keys) j
-            → (run_at new j ≡ run_at old j) ⊎ IsFilled E (is start.register) old new start (reached old place keys) j
+        other : (j ≡ k → ⊥) → (run_at trie j ≡ run_at old j) ⊎ GetsRun E (is start.register) old trie start (reached old place keys) j
+            → (run_at new j ≡ run_at old j) ⊎ GetsRun E (is start.register) old new start (reached old place keys) j
         other ne (inl e) = inl (other_run j ne ∙ e)
-        other ne (inr f) = inr (filled_still E (is start.register) old trie new start (reached old place keys) j (other_run j ne) f)
+        other ne (inr f) = inr (gets_still E (is start.register) old trie new start (reached old place keys) j (other_run j ne) f)
 
-        by : j ≡ k → ReplaysIfNeeded E old w.at k run work → (run_at new j ≡ run_at old j) ⊎ IsFilled E (is start.register) old new start (reached old place keys) j
+        by : j ≡ k → ReplaysIfNeeded E old w.at k run work → (run_at new j ≡ run_at old j) ⊎ GetsRun E (is start.register) old new start (reached old place keys) j
         by e (inl f) = inl (ap (run_at new) e ∙ stored_here ∙ sym f.1 ∙ ap (run_at old) (sym e))
-        by e (inr m) = inr (filled_here new j (inl (e, m.0, (run, stored_here, fits_at))))
+        by e (inr m) = inr (gets_here new j (inl (e, m.0, (run, stored_here, fits_at))))
 
-        here : j ≡ k → (run_at new j ≡ run_at old j) ⊎ IsFilled E (is start.register) old new start (reached old place keys) j
+        here : j ≡ k → (run_at new j ≡ run_at old j) ⊎ GetsRun E (is start.register) old new start (reached old place keys) j
         here e = by e work_was
 
     slots_kept : (j : ℕ) → slots_at new j ≡ slots_at old j
@@ -248,7 +248,7 @@ module _ {R P : Type 0} (E : R → R → Bool) (equal : IsEquivalence E) (per : 
       ahead = λ j h. noted.others j (λ e. true≢false (sym (subst (λ i. has i ks ≡ true) e h) ∙ w.once.0)) ∙ w.ahead j (has-tail j k ks h);
       there = λ j h. w.there j (has-tail j k ks h);
       small = w.small;
-      filled = λ last j m. filled_here last j (inr (subst (λ r. IsFilled E (is start.register) old last goes_to (reached old r ks) j) rest_is m));
+      gets = λ last j m. gets_here last j (inr (subst (λ r. GetsRun E (is start.register) old last goes_to (reached old r ks) j) rest_is m));
       settles = settles_on;
       count = let e : counted (parts ++ part run count ∷ []) ≡ counted parts + count = counted-last parts (part run count) in let c = w.count in omega arith;
       enough = let e = w.enough in let l = len_here in let r = rest_is in omega arith;

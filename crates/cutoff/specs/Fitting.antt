@@ -6,7 +6,7 @@ use Rattle.std.specs.declared.sync.Arc.{Arc}
 use Rattle.frames.specs.declared.types.Step.{Step}
 use Rattle.frames.specs.Configuration.{Configuration}
 use Rattle.frames.specs.Equality.{SameConfiguration}
-use Rattle.checkpoints.specs.Segment.{SegmentRun}
+use Rattle.checkpoints.specs.Runs.{SegmentRun}
 use Rattle.schedule_trie.specs.declared.slot.Slot.{Slot}
 use Rattle.schedule_trie.specs.Forest.{step_of}
 use Rattle.schedule_trie.specs.Trie.{TrieOf, SegmentOf, segment, segment_at, slots_of, note_of, keys_in, has, forest}
@@ -72,14 +72,14 @@ parts_of place (Some run ∷ runs) =
 abbrev pub slots_at : {R P : Type 0} → TrieOf (StoredRun R P) → ℕ → Option (List Slot)
 slots_at trie k = option_map (λ p. p.slots) (segment_at trie.segments k)
 
--- the branches and their segments stay the same, and each segment k for which `Filled k` doesn't
--- hold keeps its stored run
-pub record KeepsRuns {R P : Type 0} (old new : TrieOf (StoredRun R P)) (Filled : ℕ → Type 0) : Type 0 where
+-- the branches and their segments stay the same, and each segment k for which `Gets k` doesn't hold
+-- keeps its stored run
+pub record KeepsRuns {R P : Type 0} (old new : TrieOf (StoredRun R P)) (Gets : ℕ → Type 0) : Type 0 where
   pub branches : new.branches ≡ old.branches
   pub limits : new.limits ≡ old.limits
   pub forest_kept : forest new ≡ forest old
   pub slots : (k : ℕ) → slots_at new k ≡ slots_at old k
-  pub runs : (k : ℕ) → (run_at new k ≡ run_at old k) ⊎ Filled k
+  pub runs : (k : ℕ) → (run_at new k ≡ run_at old k) ⊎ Gets k
 
 -- a shared run and how many of its steps count, as a `RunPart`
 abbrev pub part_of : {R P Z : Type 0} → (Arc (SegmentRun R P) Z × ℕ) → RunPart R P
@@ -89,9 +89,13 @@ part_of p = record { run = arc_value p.0; count = p.1 }
 abbrev pub part_of_stored : {R P : Type 0} → ℕ → StoredRun R P → RunPart R P
 part_of_stored count s = record { run = s.run; count = count }
 
+-- the same stored run, which was last found to fit at the install of the run `number`
+abbrev pub with_checked : {R P : Type 0} → Option ℕ → StoredRun R P → StoredRun R P
+with_checked number s = record { run = s.run; id = s.id; link = s.link; checked = number }
+
 -- the same cells and stored run, which was last found to fit at the install of the run `number`
 abbrev pub checked_segment : {R P : Type 0} → Option ℕ → SegmentOf (StoredRun R P) → SegmentOf (StoredRun R P)
-checked_segment number p = segment p.slots (option_map (λ s. record { run = s.run; id = s.id; link = s.link; checked = number }) p.note)
+checked_segment number p = segment p.slots (option_map (with_checked number) p.note)
 
 -- on each branch with the segment `key`, the segment k is `key` or above it
 abbrev pub IsOnWayTo : {R P : Type 0} → TrieOf (StoredRun R P) → ℕ → ℕ → Type 0

@@ -1,7 +1,7 @@
 -- The result of an install.
 use Rattle.std.specs.Prelude.{ℕ, ◌≡◌, Bool, None, IsSome}
 use Rattle.frames.specs.Behaviour.{Behaviour}
-use Rattle.checkpoints.specs.Segment.{SegmentRun}
+use Rattle.checkpoints.specs.Runs.{SegmentRun}
 use Rattle.schedule_trie.specs.Trie.{segment_at}
 use Rattle.cutoff.specs.declared.install.Installation.{Installation}
 use Rattle.cutoff.specs.declared.install.Installation.TheVariants.{Installed, Stale, Gone}

@@ -6,7 +6,7 @@ pub mod Charts
 pub mod Settles
 pub mod Edits
 pub mod Plans
-pub mod Sights
+pub mod FoundFits
 pub mod Installs
 pub mod Known
 pub mod EarlyCutoff

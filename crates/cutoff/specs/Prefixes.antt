@@ -1,12 +1,12 @@
 -- Stored runs that fit the segments of a branch, from its first one on. A run is true if its steps
--- fit the register, and replay of them from its entry gives its exit and its events (`IsRun`).
+-- fit the register, and replay of them from its entry gives its exit and its events (`IsTrueRun`).
 use Rattle.std.specs.Prelude.{ℕ, ◌≡◌, ◌⊎◌, ◌<◌, ◌≤◌, ◌+◌, Bool, true, List, [], ◌∷◌, ◌++◌, Option, Some, None, length, map}
 use Rattle.std.specs.Option.{option_map}
 use Rattle.frames.specs.Behaviour.{Behaviour}
 use Rattle.frames.specs.Configuration.{Configuration, replayed}
 use Rattle.frames.specs.Equality.{SameConfiguration}
 use Rattle.frames.specs.Recorded.{AllFit}
-use Rattle.checkpoints.specs.Segment.{SegmentRun, IsRun}
+use Rattle.checkpoints.specs.Runs.{SegmentRun, IsTrueRun}
 use Rattle.schedule_trie.specs.Forest.{step_of}
 use Rattle.schedule_trie.specs.Trie.{TrieOf, segment_at, slots_of, note_of, keys_in, has, line}
 use Rattle.schedule_trie.specs.Climbs.{keys_to, keys_up_to, last_of, HasClimbedTo}
@@ -37,7 +37,7 @@ module _ {R P : Type 0} (E : R → R → Bool) (is : R → Behaviour P) (trie : 
   pub record HasTrueRun (c : Configuration R P) (k : ℕ) : Type 0 where
     pub stored : StoredRun R P
     pub noted : note_of (segment_at trie.segments k) ≡ Some stored
-    pub true_run : IsRun (is stored.run.entry.register) stored.run
+    pub true_run : IsTrueRun (is stored.run.entry.register) stored.run
     pub fits : RunFits E c (steps_at trie k) stored.run
 
   -- true runs that fit are stored in all these segments, of which the first begins at c, and replay

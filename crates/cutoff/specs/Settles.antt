@@ -2,7 +2,7 @@
 use Rattle.std.specs.Prelude.{ℕ, ◌+◌, ◌-◌, ◌≡◌, ◌⊎◌, Bool, min, List, [], ◌∷◌, ◌++◌, Option, Some, None, length}
 use Rattle.frames.specs.Behaviour.{Behaviour}
 use Rattle.frames.specs.Configuration.{Configuration, replayed}
-use Rattle.checkpoints.specs.Segment.{SegmentRun}
+use Rattle.checkpoints.specs.Runs.{SegmentRun}
 use Rattle.schedule_trie.specs.Trie.{TrieOf, segment_at, note_of, keys_in, IsNoted}
 use Rattle.cutoff.specs.Fitting.{StoredRun, RunPart, RunFits, Fits, KeepsRuns, counted, reached, run_at, steps_at}
 use Rattle.cutoff.specs.Prefixes.{RunsTo}
@@ -38,10 +38,10 @@ module _ {R P : Type 0} (E : R → R → Bool) (b : Behaviour P) (old : TrieOf (
 
   -- k is one of these segments, of which the first begins at c; no stored run fitted k, and a run
   -- that fits k is now stored
-  abbrev pub IsFilled : TrieOf (StoredRun R P) → Configuration R P → List ℕ → ℕ → Type 0
-  IsFilled new c [] k = ⊥
-  IsFilled new c (j ∷ js) k =
-      ((k ≡ j) × (Fits E old c j → ⊥) × HasFitting new c j) ⊎ IsFilled new (replayed b c (steps_at old j)) js k
+  abbrev pub GetsRun : TrieOf (StoredRun R P) → Configuration R P → List ℕ → ℕ → Type 0
+  GetsRun new c [] k = ⊥
+  GetsRun new c (j ∷ js) k =
+      ((k ≡ j) × (Fits E old c j → ⊥) × HasFitting new c j) ⊎ GetsRun new (replayed b c (steps_at old j)) js k
 
 -- the segment k is settled at c, and n steps are replayed: s, whose run fits, is now stored there,
 -- and nothing else changes
@@ -69,9 +69,9 @@ pub record SettlesTo {R P : Type 0} (E : R → R → Bool) (is : R → Behaviour
 
 -- all that a settle of the named branch's first `place` cells may change: a segment that has one of
 -- these cells and no stored run that fits may have one that fits now
-abbrev pub KeepsOrFills : {R P : Type 0} → (R → R → Bool) → (R → Behaviour P) → Charted R P → Charted R P → List ℕ → ℕ → Type 0
-KeepsOrFills E is old new name place =
-    KeepsRuns old.trie new.trie (IsFilled E (is old.start.register) old.trie new.trie old.start (reached_by old.trie name place))
+abbrev pub KeepsOrSettles : {R P : Type 0} → (R → R → Bool) → (R → Behaviour P) → Charted R P → Charted R P → List ℕ → ℕ → Type 0
+KeepsOrSettles E is old new name place =
+    KeepsRuns old.trie new.trie (GetsRun E (is old.start.register) old.trie new.trie old.start (reached_by old.trie name place))
 
 -- the result of a settle of the named branch's first `place` cells. `parts` are the runs now stored
 -- in the segments that have at least one of these cells, in order. Each run fits its segment, and

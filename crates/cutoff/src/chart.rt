@@ -17,7 +17,7 @@ mod settle;
 use crate::check::check_above;
 use crate::install::{Installation, fits_down, has_segment};
 use crate::known::Known;
-use crate::number::{Number, take_number};
+use crate::number::{RunNumber, take_number};
 use crate::plan::{Base, Job, plan_all};
 use crate::stored::Stored;
 use checkpoints::run::Run;
@@ -43,7 +43,7 @@ pub struct Chart<R: Register> {
     start: Config<R>,
     value: u32,
     next: u64,
-    fresh: Number,
+    fresh: RunNumber,
     mark: Option<SegKey>,
 }
 
@@ -106,7 +106,7 @@ impl<R: Register> Chart<R> {
             start,
             value,
             next: 0,
-            fresh: Number::none(),
+            fresh: RunNumber::none(),
             mark: None,
         })
     }

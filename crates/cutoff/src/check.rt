@@ -4,7 +4,7 @@
 ghost use Rattle.schedule_trie.specs.Trie.{IsCut};
 ghost use Rattle.cutoff.specs.Fitting.{IsChecked};
 
-use crate::number::Number;
+use crate::number::RunNumber;
 use crate::stored::Stored;
 use frames::register::Register;
 use schedule_trie::trie::{SegKey, Trie};
@@ -14,8 +14,8 @@ use schedule_trie::trie::{SegKey, Trie};
 /// or a greater one is recorded already. Never allocates.
 pub(crate) fn check_above<R: Register>(
     trie: &mut Trie<Stored<R>>,
-    fresh: Number,
-    number: Number,
+    fresh: RunNumber,
+    number: RunNumber,
     key: SegKey,
 )
     requires { IsCut trie.old }

@@ -9,7 +9,7 @@ ghost use Rattle.cutoff.specs.Links.{AreLinked};
 ghost use Rattle.cutoff.specs.Plans.{FitsDownTo};
 ghost use Rattle.cutoff.specs.Prefixes.{AreFresh, RunsDown};
 
-use crate::number::Number;
+use crate::number::RunNumber;
 use crate::stored::Stored;
 use frames::config::Config;
 use frames::register::Register;
@@ -25,7 +25,7 @@ use schedule_trie::trie::{SegKey, Trie};
 pub(crate) fn runs_lead_to<R: Register>(
     trie: &Trie<Stored<R>>,
     start: &Config<R>,
-    fresh: Number,
+    fresh: RunNumber,
     last: Option<SegKey>,
     config: &Config<R>,
 ) -> bool
@@ -39,7 +39,7 @@ pub(crate) fn runs_lead_to<R: Register>(
         × (FitsDownTo R.PartialEq.eq b trie.now start.now down config.now → result ≡ true) }
 {
     let mut entry = config;
-    let mut link = Number::none();
+    let mut link = RunNumber::none();
     let mut at = last;
     // a branch has at most one segment for each cell ever made
     for _ in 0..trie.made() {

@@ -4,7 +4,7 @@ ghost use Rattle.std.specs.Prelude.{◌≡◌, ℕ, None, Some, IsSome, true, fa
 ghost use Rattle.std.specs.Bool.{Decides};
 ghost use Rattle.schedule_trie.specs.Forest.{step_of};
 ghost use Rattle.schedule_trie.specs.Trie.{has, keys_in, segment_at, IsCut};
-ghost use Rattle.checkpoints.specs.Segment.{IsRun};
+ghost use Rattle.checkpoints.specs.Runs.{IsTrueRun};
 ghost use Rattle.cutoff.specs.Fitting.{steps_at};
 ghost use Rattle.frames.specs.Recorded.{without_register};
 ghost use Rattle.cutoff.specs.Links.{AreLinked, IsLinked, IsLinkedAt};
@@ -12,7 +12,7 @@ ghost use Rattle.cutoff.specs.Plans.{FitsDown};
 ghost use Rattle.cutoff.specs.Prefixes.{RunsLeadTo, AreFresh};
 
 use crate::climb::runs_lead_to;
-use crate::number::Number;
+use crate::number::RunNumber;
 use crate::segment::segment_cells;
 use crate::stored::{Stored, entry_below, stored_at};
 use checkpoints::run::Run;
@@ -40,10 +40,10 @@ pub enum Installation {
 pub(crate) fn fits_down<R: Register>(
     trie: &Trie<Stored<R>>,
     start: &Config<R>,
-    fresh: Number,
+    fresh: RunNumber,
     key: SegKey,
     run: &Run<R>,
-) -> (bool, Number)
+) -> (bool, RunNumber)
     requires linked { AreLinked R.PartialEq.eq start.now trie.now }
     requires cut { IsCut trie.now }
     requires fresh { AreFresh R.PartialEq.eq R.behaviour trie.now start.now fresh }
@@ -58,14 +58,14 @@ pub(crate) fn fits_down<R: Register>(
         trie.now }
     ensures runs { result.0 ≡ true
         → RunsLeadTo R.PartialEq.eq R.behaviour trie.now start.now key run.now }
-    ensures kept { result.0 ≡ true → IsRun (R.behaviour run.now.entry.register) run.now }
+    ensures kept { result.0 ≡ true → IsTrueRun (R.behaviour run.now.entry.register) run.now }
 {
     if !has_steps(trie, key, run.steps()) {
-        return (false, Number::none());
+        return (false, RunNumber::none());
     }
     let above = trie.above(key);
     if !runs_lead_to(trie, start, fresh, above, run.entry()) {
-        return (false, Number::none());
+        return (false, RunNumber::none());
     }
     let (_, number) = entry_below(start, stored_at(trie, above));
     (true, number)

@@ -5,7 +5,7 @@ ghost use Rattle.std.specs.Bool.{Decides};
 ghost use Rattle.std.specs.Option.{option_copied};
 ghost use Rattle.cutoff.specs.Known.{IsKnownDownTo};
 
-use crate::number::Number;
+use crate::number::RunNumber;
 use crate::stored::Stored;
 use frames::register::Register;
 use schedule_trie::trie::SegKey;
@@ -16,7 +16,7 @@ use schedule_trie::trie::SegKey;
 #[derive(Drop)]
 pub(crate) struct Known {
     pub(crate) mark: Option<SegKey>,
-    pub(crate) fresh: Number,
+    pub(crate) fresh: RunNumber,
 }
 
 impl Known {

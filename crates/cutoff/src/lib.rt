@@ -10,6 +10,7 @@
 pub mod chart;
 mod check;
 mod climb;
+mod found_fits;
 pub mod install;
 mod known;
 pub mod laws;
@@ -19,7 +20,6 @@ mod prefix;
 pub mod runs;
 mod segment;
 pub mod settle_rest;
-mod sight;
 mod stored;
 
 pub use chart::Chart;

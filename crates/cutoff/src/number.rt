@@ -10,12 +10,12 @@ use std::marker::Model;
 /// The number of a stored run, or no number, in one word. In contracts it is an option of a number.
 /// With two values of type `Option<u64>`, each segment would be one word larger than it is.
 #[derive(Drop)]
-pub(crate) struct Number {
+pub(crate) struct RunNumber {
     // `u64::MAX` means no number
     word: u64,
 }
 
-impl Model for Number {
+impl Model for RunNumber {
     ghost use Rattle.std.specs.Prelude.{ℕ, Option};
 
     ghost Value = { Option ℕ };
@@ -27,39 +27,39 @@ impl Model for Number {
     ghost inverse = { λ o. record { word = word_of_number o } };
 }
 
-impl Copy for Number {}
+impl Copy for RunNumber {}
 
-impl Clone for Number {
+impl Clone for RunNumber {
     ghost is_clone = { λ number copy. copy ≡ number };
 
-    fn clone(&self) -> Result<Number, AllocError> {
+    fn clone(&self) -> Result<RunNumber, AllocError> {
         Ok(*self)
     }
 }
 
-impl Number {
+impl RunNumber {
     /// No number.
     #[inline(always)]
-    pub(crate) fn none() -> Number
+    pub(crate) fn none() -> RunNumber
         ensures { result ≡ None }
     {
-        Number { word: u64::MAX }
+        RunNumber { word: u64::MAX }
     }
 
     /// This number, which has to be less than the greatest word: that one means no number.
     #[inline(always)]
-    pub(crate) fn of(number: u64) -> Number
+    pub(crate) fn of(number: u64) -> RunNumber
         requires { number < 2 ^ 64 - 1 }
         ensures { result ≡ Some number }
     {
-        Number { word: number }
+        RunNumber { word: number }
     }
 
     /// The number that `take_number` returns next, without taking it; no number if all are used.
-    pub(crate) fn peek(next: u64) -> Number
+    pub(crate) fn peek(next: u64) -> RunNumber
         ensures { (result ≡ None) ⊎ (result ≡ Some next) }
     {
-        Number { word: next }
+        RunNumber { word: next }
     }
 
     /// Whether there is a number.
@@ -72,7 +72,7 @@ impl Number {
 
     /// Whether both are numbers, and this one is at least `first`.
     #[inline(always)]
-    pub(crate) fn is_from(self, first: Number) -> bool
+    pub(crate) fn is_from(self, first: RunNumber) -> bool
         ensures { Decides result
             ((a : ℕ) × (b : ℕ) × (self ≡ Some a) × (first ≡ Some b) × (b ≤ a)) }
     {
@@ -81,7 +81,7 @@ impl Number {
     }
 
     /// This number; `other` if it is none.
-    pub(crate) fn or(self, other: Number) -> Number
+    pub(crate) fn or(self, other: RunNumber) -> RunNumber
         ensures { result ≡ option_or self other }
     {
         if self.is_some() { self } else { other }
@@ -89,7 +89,7 @@ impl Number {
 
     /// Whether both are the same number; false if either is no number.
     #[inline(always)]
-    pub(crate) fn is_same(self, other: Number) -> bool
+    pub(crate) fn is_same(self, other: RunNumber) -> bool
         ensures { Decides result ((a : ℕ) × (self ≡ Some a) × (other ≡ Some a)) }
     {
         self.word != u64::MAX && self.word == other.word
@@ -98,14 +98,14 @@ impl Number {
 
 /// Returns the next number for a run, and adds 1 to `next`. If all numbers are used, returns no
 /// number, and changes nothing.
-pub(crate) fn take_number(next: &mut u64) -> Number
+pub(crate) fn take_number(next: &mut u64) -> RunNumber
     ensures { ((result ≡ None) × (next.new ≡ next.old))
         ⊎ ((result ≡ Some next.old) × (next.new ≡ next.old + 1)) }
 {
     if *next == u64::MAX {
-        return Number::none();
+        return RunNumber::none();
     }
-    let number = Number::of(*next);
+    let number = RunNumber::of(*next);
     *next += 1;
     number
 }

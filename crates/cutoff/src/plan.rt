@@ -6,16 +6,16 @@ ghost use Rattle.frames.specs.Configuration.{Configuration};
 ghost use Rattle.frames.specs.Recorded.{AllFit};
 ghost use Rattle.cutoff.specs.Plans.{Descends, Planned, Plans, with_job, job_of, keys_of};
 ghost use Rattle.cutoff.specs.Prefixes.{RunsToOnAll, exit_or_start};
-ghost use Rattle.cutoff.specs.Sights.{AreSeen, HasDescendedAbove, HasDescended, IsUnseenPart, FitsOrAddsJob, sight_at};
+ghost use Rattle.cutoff.specs.FoundFits.{AreSeen, HasDescendedAbove, HasDescended, IsUnseenPart, FitsOrAddsJob, found_fit_at};
 ghost use Rattle.cutoff.specs.Fitting.{steps_at};
 ghost use Rattle.cutoff.specs.Known.{AreKnown};
 ghost use Rattle.cutoff.specs.Links.{AreLinked};
 ghost use Rattle.schedule_trie.specs.Trie.{keys_in, IsCut};
 ghost use Rattle.schedule_trie.specs.Forest.{step_of};
 
+use crate::found_fits::{known_fit, record_fit};
 use crate::known::{Known, is_known_down_to};
 use crate::segment::{fitting, segment_cells};
-use crate::sight::{known_fit, record_fit};
 use crate::stored::{Stored, entry_below, shared_entry, stored_at};
 use frames::config::Config;
 use frames::register::Register;
@@ -172,7 +172,7 @@ fn visit<R: Register>(
         key) }
     requires seen { AreSeen R.PartialEq.eq R.behaviour base.now.trie.now base.now.start.now
         planning.old.seen.items planning.old.jobs.items }
-    requires new { sight_at planning.old.seen.items key ≡ None }
+    requires new { found_fit_at planning.old.seen.items key ≡ None }
     requires arrives { (jobs : List (Planned R R.Pending))
         × HasDescendedAbove R.PartialEq.eq R.behaviour base.now.trie.now base.now.start.now jobs
         planning.old.jobs.items key
@@ -180,7 +180,7 @@ fn visit<R: Register>(
     ensures seen { OnOk result (AreSeen R.PartialEq.eq R.behaviour base.now.trie.now
         base.now.start.now planning.new.seen.items planning.new.jobs.items) }
     ensures others { OnOk result ((k : ℕ) → (k ≡ key → ⊥)
-        → sight_at planning.new.seen.items k ≡ sight_at planning.old.seen.items k) }
+        → found_fit_at planning.new.seen.items k ≡ found_fit_at planning.old.seen.items k) }
     ensures arrives { IfOk result (λ fits. (jobs : List (Planned R R.Pending))
         → HasDescendedAbove R.PartialEq.eq R.behaviour base.now.trie.now base.now.start.now jobs
         planning.old.jobs.items key

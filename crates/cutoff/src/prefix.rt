@@ -5,7 +5,7 @@
 
 ghost use Rattle.std.specs.Prelude.{◌≡◌, ◌<◌, ◌≤◌, ℕ, [], None, Some, true, IfOk, OnOk, MatchOption, length, reverse};
 ghost use Rattle.std.specs.Option.{option_copied};
-ghost use Rattle.checkpoints.specs.Segment.{IsRun};
+ghost use Rattle.checkpoints.specs.Runs.{IsTrueRun};
 ghost use Rattle.frames.specs.Configuration.{Configuration};
 ghost use Rattle.frames.specs.Equality.{SameConfiguration};
 ghost use Rattle.schedule_trie.specs.Trie.{has, keys_in, IsCut};
@@ -48,7 +48,7 @@ fn begins_at<R: Register>(start: &Config<R>, top: &Top<'_, R>) -> bool
     ensures { result ≡ true → (top.now.above ≡ None)
         × MatchOption (option_copied top.now.stored) ⊥ (λ s.
         SameConfiguration R.PartialEq.eq s.run.entry start.now
-        × IsRun (R.behaviour s.run.entry.register) s.run) }
+        × IsTrueRun (R.behaviour s.run.entry.register) s.run) }
 {
     match (top.above, top.stored) {
         (None, Some(stored)) => *stored.entry() == *start,

@@ -3,14 +3,14 @@
 
 ghost use Rattle.std.specs.Prelude.{◌≡◌, ◌≤◌, ℕ, None, Some, IfOk, OnOk, OnErr, MatchOption, length};
 ghost use Rattle.std.specs.Arc.{arc_value};
-ghost use Rattle.checkpoints.specs.Segment.{IsRun};
+ghost use Rattle.checkpoints.specs.Runs.{IsTrueRun};
 ghost use Rattle.frames.specs.Recorded.{AllFit};
 ghost use Rattle.schedule_trie.specs.Trie.{segment_at, slots_of, note_of};
 ghost use Rattle.cutoff.specs.Fitting.{RunFits, Fits, steps_at};
 ghost use Rattle.cutoff.specs.Settles.{IsSegmentSettled};
 ghost use Rattle.cutoff.specs.Links.{IsLinkedAt};
 
-use crate::number::{Number, take_number};
+use crate::number::{RunNumber, take_number};
 use crate::stored::Stored;
 use checkpoints::run::run_of;
 use frames::config::Config;
@@ -27,13 +27,13 @@ pub(crate) fn fitting<'a, R: Register>(
     trie: &'a Trie<Stored<R>>,
     key: SegKey,
     config: &Config<R>,
-    above: Number,
+    above: RunNumber,
 ) -> Option<&'a Stored<R>>
     requires linked { (next : ℕ) × IsLinkedAt R.PartialEq.eq config.now next above trie.now }
     ensures { MatchOption result (Fits R.PartialEq.eq trie.now config.now key → ⊥)
         (λ s. (note_of (segment_at trie.now.segments key) ≡ Some s.now)
         × RunFits R.PartialEq.eq config.now (steps_at trie.now key) s.now.run
-        × IsRun (R.behaviour s.now.run.entry.register) s.now.run) }
+        × IsTrueRun (R.behaviour s.now.run.entry.register) s.now.run) }
 {
     let stored = trie.note(key)?;
     if stored.begins(config, above) {
@@ -64,7 +64,7 @@ pub(crate) fn replay_segment<R: Register>(
     next: &mut u64,
     key: SegKey,
     config: Arc<Config<R>>,
-    above: Number,
+    above: RunNumber,
 ) -> Result<(Stored<R>, u32), AllocError>
     requires linked { IsLinkedAt R.PartialEq.eq (arc_value config) next.old above trie.old }
     requires short { length (steps_at trie.old key) ≤ 128 }
@@ -72,7 +72,7 @@ pub(crate) fn replay_segment<R: Register>(
     requires misses { Fits R.PartialEq.eq trie.old (arc_value config) key → ⊥ }
     ensures settled { IfOk result (λ r.
         IsSegmentSettled R.PartialEq.eq trie.old trie.new (arc_value config) key r.0 r.1
-        × IsRun (R.behaviour r.0.run.entry.register) r.0.run) }
+        × IsTrueRun (R.behaviour r.0.run.entry.register) r.0.run) }
     ensures linked { OnOk result
         (IsLinkedAt R.PartialEq.eq (arc_value config) next.new None trie.new) }
     ensures unchanged { OnErr result ((trie.new ≡ trie.old) × (next.new ≡ next.old)) }

@@ -4,11 +4,11 @@
 
 ghost use Rattle.std.specs.Prelude.{◌≡◌, ◌≤◌, ℕ, Option, None, Some, IfOk, OnErr, length};
 ghost use Rattle.std.specs.Option.{option_copied, option_map};
-ghost use Rattle.checkpoints.specs.Segment.{IsRun};
+ghost use Rattle.checkpoints.specs.Runs.{IsTrueRun};
 ghost use Rattle.frames.specs.Recorded.{AllFit};
 ghost use Rattle.schedule_trie.specs.Trie.{keys_in, line, segment_at, IsCut};
 ghost use Rattle.cutoff.specs.Fitting.{KeepsRuns, part_of_stored, part_of, reached, bare_run, steps_at};
-ghost use Rattle.cutoff.specs.Settles.{IsSegmentSettled, IsFilled, SettlesTo};
+ghost use Rattle.cutoff.specs.Settles.{IsSegmentSettled, GetsRun, SettlesTo};
 ghost use Rattle.cutoff.specs.Links.{IsLinkedAt};
 ghost use Rattle.cutoff.specs.Prefixes.{AreFresh, IsLeftToSettle, exit_or, note_if_any};
 
@@ -61,7 +61,7 @@ fn settle_below<R: Register>(
     requires fits { AllFit (R.behaviour start.now.register) (steps_at trie.old key) }
     ensures settled { let c = exit_or start.now (option_map bare_run (option_copied above.entry)) in
         IfOk result (λ r. IsSegmentSettled R.PartialEq.eq trie.old trie.new c key r.0 r.1
-        × IsRun (R.behaviour r.0.run.entry.register) r.0.run) }
+        × IsTrueRun (R.behaviour r.0.run.entry.register) r.0.run) }
     ensures linked { IsLinkedAt R.PartialEq.eq start.now next.new None trie.new }
     ensures unchanged { OnErr result (trie.new ≡ trie.old) }
 {
@@ -107,7 +107,7 @@ pub(crate) fn settle_rest<R: Register>(
     ensures keeps { (i count place : ℕ)
         → IsLeftToSettle R.PartialEq.eq R.behaviour trie.old start.now
         rest.now.fitted rest.now.keys.items rest.now.top key count place i
-        → KeepsRuns trie.old trie.new (IsFilled R.PartialEq.eq (R.behaviour start.now.register)
+        → KeepsRuns trie.old trie.new (GetsRun R.PartialEq.eq (R.behaviour start.now.register)
         trie.old trie.new start.now (reached trie.old place (keys_in trie.old.branches i))) }
     ensures linked { IsLinkedAt R.PartialEq.eq start.now next.new None trie.new }
     ensures fresh { (first : Option ℕ)

@@ -4,14 +4,14 @@ ghost use Rattle.std.specs.Prelude.{◌≡◌, ◌⊎◌, ℕ, None, Some, true,
 ghost use Rattle.std.specs.Bool.{Decides};
 ghost use Rattle.std.specs.Arc.{arc_value};
 ghost use Rattle.std.specs.Option.{option_copied, option_map};
-ghost use Rattle.checkpoints.specs.Segment.{IsRun};
+ghost use Rattle.checkpoints.specs.Runs.{IsTrueRun};
 ghost use Rattle.frames.specs.Equality.{SameConfiguration};
 ghost use Rattle.frames.specs.Recorded.{without_register};
 ghost use Rattle.cutoff.specs.Fitting.{bare_run};
 ghost use Rattle.cutoff.specs.Links.{run_number};
 ghost use Rattle.cutoff.specs.Prefixes.{exit_or, note_if_any};
 
-use crate::number::Number;
+use crate::number::RunNumber;
 use checkpoints::run::Run;
 use frames::config::Config;
 use frames::register::Register;
@@ -26,9 +26,9 @@ use std::sync::Arc;
 #[derive(Drop)]
 pub(crate) struct Stored<R: Register> {
     run: Arc<Run<R>>,
-    id: Number,
-    link: Number,
-    checked: Number,
+    id: RunNumber,
+    link: RunNumber,
+    checked: RunNumber,
 }
 
 impl<R: Register> Model for Stored<R> {
@@ -43,7 +43,7 @@ impl<R: Register> Model for Stored<R> {
 impl<R: Register> Stored<R> {
     /// A stored run with the number `id` and the link `link`, either of which may be missing;
     /// `checked` is `id` too.
-    pub(crate) fn new(run: Arc<Run<R>>, id: Number, link: Number) -> Stored<R>
+    pub(crate) fn new(run: Arc<Run<R>>, id: RunNumber, link: RunNumber) -> Stored<R>
         ensures run { result.run ≡ arc_value run }
         ensures id { result.id ≡ id }
         ensures link { result.link ≡ link }
@@ -67,7 +67,7 @@ impl<R: Register> Stored<R> {
     /// The configuration after the run's steps.
     pub(crate) fn exit(&self) -> &Config<R>
         ensures exit { result.now ≡ self.now.run.exit }
-        ensures kept { IsRun (R.behaviour self.now.run.entry.register) self.now.run }
+        ensures kept { IsTrueRun (R.behaviour self.now.run.entry.register) self.now.run }
     {
         self.run.exit()
     }
@@ -75,13 +75,13 @@ impl<R: Register> Stored<R> {
     /// The configuration before the run's steps.
     pub(crate) fn entry(&self) -> &Config<R>
         ensures entry { result.now ≡ self.now.run.entry }
-        ensures kept { IsRun (R.behaviour self.now.run.entry.register) self.now.run }
+        ensures kept { IsTrueRun (R.behaviour self.now.run.entry.register) self.now.run }
     {
         self.run.entry()
     }
 
     /// The run's number, if it has one.
-    pub(crate) fn id(&self) -> Number
+    pub(crate) fn id(&self) -> RunNumber
         ensures { result ≡ self.now.id }
     {
         self.id
@@ -89,7 +89,7 @@ impl<R: Register> Stored<R> {
 
     /// The run's link, if it has one: the number of the run at whose exit this one was found to
     /// begin.
-    pub(crate) fn link(&self) -> Number
+    pub(crate) fn link(&self) -> RunNumber
         ensures { result ≡ self.now.link }
     {
         self.link
@@ -112,7 +112,7 @@ impl<R: Register> Stored<R> {
 
     /// The same run, linked to the run with the number `above`. If `above` is `None`, the run keeps
     /// its link.
-    pub(crate) fn linked_to(&self, above: Number) -> Result<Stored<R>, AllocError>
+    pub(crate) fn linked_to(&self, above: RunNumber) -> Result<Stored<R>, AllocError>
         ensures run { IfOk result (λ s. s.run ≡ self.now.run) }
         ensures id { IfOk result (λ s. s.id ≡ self.now.id) }
         ensures link { IfOk result (λ s. (s.link ≡ above) ⊎ (s.link ≡ self.now.link)) }
@@ -123,7 +123,7 @@ impl<R: Register> Stored<R> {
     }
 
     /// The same run, found to fit at the install of the run with the number `checked`.
-    pub(crate) fn checked_at(&self, checked: Number) -> Result<Stored<R>, AllocError>
+    pub(crate) fn checked_at(&self, checked: RunNumber) -> Result<Stored<R>, AllocError>
         ensures run { IfOk result (λ s. s.run ≡ self.now.run) }
         ensures id { IfOk result (λ s. s.id ≡ self.now.id) }
         ensures link { IfOk result (λ s. s.link ≡ self.now.link) }
@@ -134,7 +134,7 @@ impl<R: Register> Stored<R> {
 
     /// The same run and number, with another link and another `checked`.
     #[inline(always)]
-    fn noted_with(&self, to: Number, checked: Number) -> Result<Stored<R>, AllocError>
+    fn noted_with(&self, to: RunNumber, checked: RunNumber) -> Result<Stored<R>, AllocError>
         ensures run { IfOk result (λ s. s.run ≡ self.now.run) }
         ensures id { IfOk result (λ s. s.id ≡ self.now.id) }
         ensures link { IfOk result (λ s. s.link ≡ to) }
@@ -152,14 +152,14 @@ impl<R: Register> Stored<R> {
     /// The number of the last run at whose install this one was found to fit; its own number if
     /// there is no such run.
     #[inline(always)]
-    pub(crate) fn checked(&self) -> Number
+    pub(crate) fn checked(&self) -> RunNumber
         ensures { result ≡ self.now.checked }
     {
         self.checked
     }
 
     /// Whether the run needs no new link: `above` is `None`, or is the run's link already.
-    pub(crate) fn keeps_link(&self, above: Number) -> bool
+    pub(crate) fn keeps_link(&self, above: RunNumber) -> bool
         ensures { result ≡ true → (above ≡ None) ⊎ (self.now.link ≡ above) }
     {
         !above.is_some() || self.link.is_same(above)
@@ -167,12 +167,12 @@ impl<R: Register> Stored<R> {
 
     /// Whether the run begins at `config`. `above` is `None`, or the number of a run with the exit
     /// `config`. If this run's link is that number, no configurations are compared.
-    pub(crate) fn begins(&self, config: &Config<R>, above: Number) -> bool
+    pub(crate) fn begins(&self, config: &Config<R>, above: RunNumber) -> bool
         requires linked { (a : ℕ) → self.now.link ≡ Some a → above ≡ Some a
             → SameConfiguration R.PartialEq.eq self.now.run.entry config.now }
         ensures begins { Decides result
             (SameConfiguration R.PartialEq.eq self.now.run.entry config.now) }
-        ensures kept { IsRun (R.behaviour self.now.run.entry.register) self.now.run }
+        ensures kept { IsTrueRun (R.behaviour self.now.run.entry.register) self.now.run }
     {
         let entry = self.run.entry();
         self.link.is_same(above) || *entry == *config
@@ -188,7 +188,7 @@ impl<R: Register> Stored<R> {
 
     /// Whether the run's exit is `config`. `link` is `None`, or the link of a run that begins at
     /// `config`. If `link` is this run's number, no configurations are compared.
-    pub(crate) fn ends(&self, config: &Config<R>, link: Number) -> bool
+    pub(crate) fn ends(&self, config: &Config<R>, link: RunNumber) -> bool
         requires linked { (a : ℕ) → link ≡ Some a → self.now.id ≡ Some a
             → (without_register config.now ≡ without_register self.now.run.exit)
             × (R.PartialEq.eq config.now.register self.now.run.entry.register ≡ true) }
@@ -214,16 +214,16 @@ pub(crate) fn stored_at<R: Register>(
 pub(crate) fn entry_below<'a, R: Register>(
     start: &'a Config<R>,
     above: Option<&'a Stored<R>>,
-) -> (&'a Config<R>, Number)
+) -> (&'a Config<R>, RunNumber)
     ensures entry { result.0.now
         ≡ exit_or start.now (option_map bare_run (option_copied above.entry)) }
     ensures number { result.1 ≡ run_number (option_copied above.entry) }
     ensures kept { IfSome (option_copied above.entry)
-        (λ s. IsRun (R.behaviour s.run.entry.register) s.run) }
+        (λ s. IsTrueRun (R.behaviour s.run.entry.register) s.run) }
 {
     match above {
         Some(stored) => (stored.exit(), stored.id()),
-        None => (start, Number::none()),
+        None => (start, RunNumber::none()),
     }
 }
 

@@ -55,25 +55,25 @@ module _ {P : Type 0} where
       short : (most count : ℕ) → count < most → nat_le most count ≡ false
       short most count h = grind (arith, nat_tests)
 
-  module _ (w : World P) (chair who : ℕ) (guard : Option ℕ) (command : Command) (found : List Entry) (fresh : w.logged ≡ 0) where
-    logged_reply_or_memory : (reply : Reply) → IsLegal w found → IsLegal w (logged (entry chair who guard command reply) found) → (reply ≡ No LogFull → length found ≡ w.limits.log)
-        → (command_result who guard command (world_after w found) ≡ record { world = world_after w (logged (entry chair who guard command reply) found); reply = reply }) ⊎ (reply ≡ No Memory)
+  module _ (w : World P) (chair session : ℕ) (if_at : Option ℕ) (command : Command) (found : List Entry) (fresh : w.logged ≡ 0) where
+    logged_reply_or_memory : (reply : Reply) → IsLegal w found → IsLegal w (logged (entry chair session if_at command reply) found) → (reply ≡ No LogFull → length found ≡ w.limits.log)
+        → (command_result session if_at command (world_after w found) ≡ record { world = world_after w (logged (entry chair session if_at command reply) found); reply = reply }) ⊎ (reply ≡ No Memory)
     logged_reply_or_memory (No LogFull) before legal full =
         let count = counted_calls w found before in
         let many = count.0 in
         let limit : (world_after w found).limits.log ≡ w.limits.log = ap (λ l. l.log) count.1 in
         let long = full refl in
-        inl (acted_full who (world_after w found) guard command
+        inl (acted_full session (world_after w found) if_at command
         (le_true (world_after w found).limits.log (world_after w found).logged (is_full (world_after w found)) refl (omega arith)))
     logged_reply_or_memory (No Memory) before legal full = inr refl
     logged_reply_or_memory reply before legal full =
-        let e = entry chair who guard command reply in
+        let e = entry chair session if_at command reply in
         let last = legal_last w found e legal in
         let after = world_after_more w found e in
         inl (λ i. record { world = sym after i; reply = last i })
 
     -- the reply is the one that the command gets in the world after the calls found, or Memory
-    pub reply_or_memory : (reply : Reply) (after : List Entry) → after ≡ logged (entry chair who guard command reply) found → IsLegal w found → IsLegal w (logged (entry chair who guard command reply) found)
-        → (reply ≡ No LogFull → length found ≡ w.limits.log) → (command_result who guard command (world_after w found) ≡ record { world = world_after w after; reply = reply }) ⊎ (reply ≡ No Memory)
+    pub reply_or_memory : (reply : Reply) (after : List Entry) → after ≡ logged (entry chair session if_at command reply) found → IsLegal w found → IsLegal w (logged (entry chair session if_at command reply) found)
+        → (reply ≡ No LogFull → length found ≡ w.limits.log) → (command_result session if_at command (world_after w found) ≡ record { world = world_after w after; reply = reply }) ⊎ (reply ≡ No Memory)
     reply_or_memory reply after is before legal full =
-        subst (λ l. (command_result who guard command (world_after w found) ≡ record { world = world_after w l; reply = reply }) ⊎ (reply ≡ No Memory)) (sym is) (logged_reply_or_memory reply before legal full)
+        subst (λ l. (command_result session if_at command (world_after w found) ≡ record { world = world_after w l; reply = reply }) ⊎ (reply ≡ No Memory)) (sym is) (logged_reply_or_memory reply before legal full)

@@ -48,15 +48,15 @@ module _ {R P : Type 0} (is : R → Behaviour P) (first : BookOf R P) (v w : Vie
       let same : calls_in list ≡ calls = ap calls_in is_list ∙ calls_in_as_items R P calls in
       record { whole = is_list ∙ ap (items first) (sym same); legal = subst (IsLegal (opening_of is first)) (sym same) legal }
 
-  module _ (who : ℕ) (guard : Option ℕ) (command : Command) (receipt : Receipt) where
+  module _ (session : ℕ) (if_at : Option ℕ) (command : Command) (receipt : Receipt) where
     -- a chair that did the work of a command received its reply, as `Received` says
-    pub received : IsHistory is first v.seen → Holding made_under (λ before after. IsAct is who guard command before after receipt) v w
-        → Received is first who guard command v w receipt × IsHistory is first w.seen
+    pub received : IsHistory is first v.seen → Holding made_under (λ before after. IsAct is session if_at command before after receipt) v w
+        → Received is first session if_at command v w receipt × IsHistory is first w.seen
     received h (before, added, starts, not_fewer, one, after, act, whole) =
         let found = act.found in
         let one_first : first ≡ act.first = same_first first act.first (calls_in v.seen) found v.seen h.whole (subst (λ l. StartsWith l v.seen) act.finds starts) in
         let is_found : before ≡ items first found = act.finds ∙ ap (λ o. items o found) (sym one_first) in
-        let call : ℕ → Entry = λ k. entry k who guard command receipt.reply in
+        let call : ℕ → Entry = λ k. entry k session if_at command receipt.reply in
         let n = chair_number v.shares in
         let t = is_logged receipt.reply in
         let put_is : items first found ++ added ≡ items first (logged_if t (call act.chair) found) =
@@ -75,7 +75,7 @@ module _ {R P : Type 0} (is : R → Behaviour P) (first : BookOf R P) (v w : Vie
             legal = legal;
             sees = sees;
             owns = ap (λ x. own_calls x) after ∙ (calls_append v.calls added ∙ (ap (λ l. own_calls v ++ calls_in l) both.0 ∙ (ap (λ l. own_calls v ++ l) (calls_in_as_items R P (logged (call n) [])) ∙ sym (logged_last (call n) (own_calls v)))));
-            replies = reply_or_memory (opening_of is first) n who guard command found refl receipt.reply (seen w) sees (legal_found (opening_of is first) (call n) found legal) legal full;
+            replies = reply_or_memory (opening_of is first) n session if_at command found refl receipt.reply (seen w) sees (legal_found (opening_of is first) (call n) found legal) legal full;
             at = act.at ∙ (ap length both.1 ∙ ap length (sym sees));
             full = full;
             room = room;

@@ -82,17 +82,17 @@ paged_no_stray (Err r) result e h = subst (λ r. IfOk r ShowsNoStray) (sym e) tt
 
 module _ {R P : Type 0} (is : R → Behaviour P) where
   -- if the reply is LogFull, the log is as long as its limit
-  module _ (old new : BookOf R P) (who : ℕ) (guard : Option ℕ) (command : Command) (held : IsLegalBook is new) (same_log : new.log ≡ old.log)
-      (acts : command_result who guard command (world_of is old.now) ≡ record { world = world_of is new.now; reply = No LogFull }) where
+  module _ (old new : BookOf R P) (session : ℕ) (if_at : Option ℕ) (command : Command) (held : IsLegalBook is new) (same_log : new.log ≡ old.log)
+      (acts : command_result session if_at command (world_of is old.now) ≡ record { world = world_of is new.now; reply = No LogFull }) where
     full_log_by : (t : Bool) → is_full (world_of is old.now) ≡ t → length old.log ≡ new.now.limits.log
     full_log_by true full =
-        let same : world_of is old.now ≡ world_of is new.now = ap (λ a. a.world) (sym (acted_full who (world_of is old.now) guard command full) ∙ acts) in
+        let same : world_of is old.now ≡ world_of is new.now = ap (λ a. a.world) (sym (acted_full session (world_of is old.now) if_at command full) ∙ acts) in
         let most : new.now.limits.log ≤ new.now.logged = le_from_true new.now.limits.log new.now.logged (is_full (world_of is new.now)) refl (ap is_full (sym same) ∙ full) in
         let few = held.few in
         let count : length old.log ≡ new.now.logged = ap length (sym same_log) ∙ held.count in
         omega arith
     full_log_by false room =
-        let in_log = (acted_logged who (world_of is old.now) guard command room).0 in
+        let in_log = (acted_logged session (world_of is old.now) if_at command room).0 in
         let none : false ≡ true = ap (λ a. is_logged a.reply) (sym acts) ∙ in_log in
         absurd (cc)
 
@@ -102,9 +102,9 @@ module _ {R P : Type 0} (is : R → Behaviour P) where
   -- if the log isn't full, `command_result` never gives the reply Memory; and if log and world stay
   -- the same, the log is shorter than its limit
   module _ (old new : BookOf R P) (room : is_full (world_of is old.now) ≡ false) where
-    never_out_of_memory : (who : ℕ) (guard : Option ℕ) (command : Command) → command_result who guard command (world_of is old.now) ≡ record { world = world_of is new.now; reply = No Memory } → ⊥
-    never_out_of_memory who guard command acts =
-        let clash : false ≡ true = ap (λ a. is_logged a.reply) (sym acts) ∙ (acted_logged who (world_of is old.now) guard command room).0 in
+    never_out_of_memory : (session : ℕ) (if_at : Option ℕ) (command : Command) → command_result session if_at command (world_of is old.now) ≡ record { world = world_of is new.now; reply = No Memory } → ⊥
+    never_out_of_memory session if_at command acts =
+        let clash : false ≡ true = ap (λ a. is_logged a.reply) (sym acts) ∙ (acted_logged session (world_of is old.now) if_at command room).0 in
         cc
 
     log_below_limit : IsLegalBook is new → world_of is new.now ≡ world_of is old.now → new.log ≡ old.log → length old.log < new.now.limits.log
@@ -117,9 +117,9 @@ module _ {R P : Type 0} (is : R → Behaviour P) where
         below most count h = grind (arith, nat_tests)
 
   module _ (first old new : BookOf R P) {before : List (Item R P)} (book : IsJournalBook is first old before) (same : opening_of is new ≡ opening_of is old) (held : IsLegalBook is new) where
-    module _ (chair who : ℕ) (guard : Option ℕ) (command : Command) (receipt : Receipt) where
+    module _ (chair session : ℕ) (if_at : Option ℕ) (command : Command) (receipt : Receipt) where
       call : Entry
-      call = entry chair who guard command receipt.reply
+      call = entry chair session if_at command receipt.reply
 
       logged_by_act : ActsOnBook is old new call ⊎ LacksMemory is old new receipt.reply → new.log ≡ logged call old.log
       unfolding call
@@ -130,22 +130,22 @@ module _ {R P : Type 0} (is : R → Behaviour P) where
       unfolding call
       log_at_limit (inl a) is_log_full =
           let same_log : new.log ≡ old.log = a.logs ∙ ap (λ r. cond (is_logged r) (old.log ++ call ∷ []) old.log) is_log_full in
-          full_log old new who guard command held same_log (a.acts ∙ ap (λ r. record { world = world_of is new.now; reply = r }) is_log_full)
+          full_log old new session if_at command held same_log (a.acts ∙ ap (λ r. record { world = world_of is new.now; reply = r }) is_log_full)
           ∙ ap (λ w. w.limits.log) (same ∙ book.opened)
       log_at_limit (inr w) is_log_full = absurd (let clash : No Memory ≡ No LogFull = sym w.replies ∙ is_log_full in cc)
 
-      log_below_limit_if_memory : ActsOnBook is old new call ⊎ LacksMemory is old new receipt.reply → RefusesMemoryLast is old who guard command receipt.reply
+      log_below_limit_if_memory : ActsOnBook is old new call ⊎ LacksMemory is old new receipt.reply → RefusesMemoryLast is old session if_at command receipt.reply
           → receipt.reply ≡ No Memory → length old.log < (opening_of is first).limits.log
       unfolding call
       log_below_limit_if_memory (inl a) last no_memory =
-          absurd (never_out_of_memory old new (last no_memory).first who guard command (a.acts ∙ ap (λ r. record { world = world_of is new.now; reply = r }) no_memory))
+          absurd (never_out_of_memory old new (last no_memory).first session if_at command (a.acts ∙ ap (λ r. record { world = world_of is new.now; reply = r }) no_memory))
       log_below_limit_if_memory (inr w) last no_memory =
           subst (λ (o : World P). length old.log < o.limits.log) (same ∙ book.opened) (log_below_limit old new (last no_memory).first held w.world w.log)
 
       -- what a book does with a command is, for its journal, work as `IsAct` says
-      pub act_for_journal : ActsOnBook is old new (entry chair who guard command receipt.reply) ⊎ LacksMemory is old new receipt.reply
-          → RefusesMemoryLast is old who guard command receipt.reply → receipt.at ≡ length new.log
-          → IsAct is who guard command before (items first new.log) receipt
+      pub act_for_journal : ActsOnBook is old new (entry chair session if_at command receipt.reply) ⊎ LacksMemory is old new receipt.reply
+          → RefusesMemoryLast is old session if_at command receipt.reply → receipt.at ≡ length new.log
+          → IsAct is session if_at command before (items first new.log) receipt
       unfolding call
       act_for_journal did last at =
           let more = logged_by_act did in
@@ -162,7 +162,7 @@ module _ {R P : Type 0} (is : R → Behaviour P) where
           }
 
       -- the call is added to the list, or nothing is
-      pub adds_at_most_one : ActsOnBook is old new (entry chair who guard command receipt.reply) ⊎ LacksMemory is old new receipt.reply
+      pub adds_at_most_one : ActsOnBook is old new (entry chair session if_at command receipt.reply) ⊎ LacksMemory is old new receipt.reply
           → (added : List (Item R P)) × (items first new.log ≡ before ++ added) × AtMostOne made_under chair added
       unfolding call
       adds_at_most_one did = (

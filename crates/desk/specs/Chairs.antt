@@ -69,13 +69,13 @@ module _ {R P : Type 0} where
     -- reply is what the command gets in the world after the history found, or Memory. The reply is
     -- LogFull only if the history found is as long as the limit, and Memory only if the history
     -- found is shorter than the limit.
-    pub record Received (who : ℕ) (guard : Option ℕ) (command : Command) (v w : View (Item R P)) (receipt : Receipt) : Type 0 where
+    pub record Received (session : ℕ) (if_at : Option ℕ) (command : Command) (v w : View (Item R P)) (receipt : Receipt) : Type 0 where
       pub found : List Entry
       pub finds : Finds v found
-      pub legal : IsLegal (opening_of is first) (logged (entry (chair_number v.shares) who guard command receipt.reply) found)
-      pub sees : seen w ≡ logged (entry (chair_number v.shares) who guard command receipt.reply) found
-      pub owns : own_calls w ≡ logged (entry (chair_number v.shares) who guard command receipt.reply) (own_calls v)
-      pub replies : (command_result who guard command (world_after (opening_of is first) found) ≡ record { world = world_after (opening_of is first) (seen w); reply = receipt.reply })
+      pub legal : IsLegal (opening_of is first) (logged (entry (chair_number v.shares) session if_at command receipt.reply) found)
+      pub sees : seen w ≡ logged (entry (chair_number v.shares) session if_at command receipt.reply) found
+      pub owns : own_calls w ≡ logged (entry (chair_number v.shares) session if_at command receipt.reply) (own_calls v)
+      pub replies : (command_result session if_at command (world_after (opening_of is first) found) ≡ record { world = world_after (opening_of is first) (seen w); reply = receipt.reply })
           ⊎ (receipt.reply ≡ No Memory)
       pub at : receipt.at ≡ length (seen w)
       pub full : receipt.reply ≡ No LogFull → length found ≡ (opening_of is first).limits.log

@@ -66,14 +66,14 @@ module _ {R P : Type 0} (is : R → Behaviour P) where
   -- The work of a command finds a history, and adds the call with its reply to the end, if the
   -- reply is logged. The new history is legal, and the receipt has its length. The reply is LogFull
   -- only if the history found is as long as the limit, and Memory only if that history is shorter.
-  pub record IsAct (who : ℕ) (guard : Option ℕ) (command : Command) (before after : List (Item R P)) (receipt : Receipt) : Type 0 where
+  pub record IsAct (session : ℕ) (if_at : Option ℕ) (command : Command) (before after : List (Item R P)) (receipt : Receipt) : Type 0 where
     pub first : BookOf R P
     pub found : List Entry
     pub chair : ℕ
     pub finds : before ≡ items first found
-    pub leaves : after ≡ items first (logged (entry chair who guard command receipt.reply) found)
-    pub legal : IsLegal (opening_of is first) (logged (entry chair who guard command receipt.reply) found)
-    pub at : receipt.at ≡ length (logged (entry chair who guard command receipt.reply) found)
+    pub leaves : after ≡ items first (logged (entry chair session if_at command receipt.reply) found)
+    pub legal : IsLegal (opening_of is first) (logged (entry chair session if_at command receipt.reply) found)
+    pub at : receipt.at ≡ length (logged (entry chair session if_at command receipt.reply) found)
     pub full : receipt.reply ≡ No LogFull → length found ≡ (opening_of is first).limits.log
     pub room : receipt.reply ≡ No Memory → length found < (opening_of is first).limits.log
 

@@ -8,11 +8,11 @@ use sessions::command::Command;
 use std::alloc::Global;
 use turn::Work;
 
-/// The work that answers one command of session `who`.
+/// The work that answers one command of a session.
 #[derive(Drop)]
 pub(crate) struct Act<'a> {
     pub(crate) alloc: Global,
-    pub(crate) who: u32,
+    pub(crate) session: u32,
     pub(crate) if_at: Option<u64>,
     pub(crate) command: &'a Command,
 }
@@ -22,11 +22,11 @@ impl<R: Register> Work<Journal<R>> for Act<'_> {
 
     type Out = Receipt;
 
-    ghost relation = { λ work before after receipt _. IsAct R.behaviour work.who work.if_at work.command.now before after receipt };
+    ghost relation = { λ work before after receipt _. IsAct R.behaviour work.session work.if_at work.command.now before after receipt };
 
     fn work(&mut self, journal: &mut Journal<R>, number: u32) -> Receipt {
         let book = &mut *journal.book;
-        let reply = book.act(self.alloc, number, self.who, self.if_at, self.command);
+        let reply = book.act(self.alloc, number, self.session, self.if_at, self.command);
         let at = u64::from(book.len());
         Receipt { at, reply }
     }

@@ -124,31 +124,31 @@ impl<R: Register> Desk<R> {
         Desk::over(alloc, book)
     }
 
-    /// Waits for the turn, and answers a command of session `who`. The history that the call finds
-    /// begins with what the chair had seen. The reply is the one that the command gets after this
-    /// history, or Memory; if a guard `if_at` is given and differs from the edit count, the command
-    /// is refused. If the reply is LogFull or Memory, the command isn't logged, and what commands
-    /// see doesn't change. Otherwise the command is logged with its reply, under the chair's
-    /// number. Afterwards the chair has seen the history found, followed by this call if the call
-    /// was logged.
+    /// Waits for the turn, and answers a session's command. The history that the call finds begins
+    /// with what the chair had seen. The reply is the one that the command gets after this history,
+    /// or Memory; if a guard `if_at` is given and differs from the edit count, the command is
+    /// refused. If the reply is LogFull or Memory, the command isn't logged, and what commands see
+    /// doesn't change. Otherwise the command is logged with its reply, under the chair's number.
+    /// Afterwards the chair has seen the history found, followed by this call if the call was
+    /// logged.
     pub fn act<W: Wait>(
         &self,
         rt: &W,
         alloc: Global,
         chair: &mut Chair<R>,
-        who: u32,
+        session: u32,
         if_at: Option<u64>,
         command: &Command,
     ) -> Receipt
         requires { IsChairOf R.behaviour self.now chair.old }
         ensures chair { IsChairOf R.behaviour self.now chair.new }
-        ensures received { Received R.behaviour (book_at_first self.now) who if_at command.now
+        ensures received { Received R.behaviour (book_at_first self.now) session if_at command.now
             (view chair.old) (view chair.new) result }
         ensures owns { OwnsItsCalls made_under (view chair.new) }
     {
         let mut act = Act {
             alloc,
-            who,
+            session,
             if_at,
             command,
         };

@@ -60,7 +60,7 @@ impl<R: Register> Counted for Journal<R> {
 
     type Entry = Item<R>;
 
-    ghost entries = { λ items. items };
+    ghost entries = { λ list. list };
 
     ghost by = { made_under };
 

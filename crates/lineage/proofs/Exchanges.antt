@@ -8,7 +8,7 @@ use Rattle.std.proofs.lemmas.List.Sums.{sum_by-set, sum_by_push}
 use Rattle.lineage.specs.declared.node.Node.{Node}
 use Rattle.lineage.specs.Family.{has, item_at, path_in, IsExchanged}
 use Rattle.lineage.specs.Climbs.{IsClimb, Ends}
-use Rattle.lineage.specs.Lineages.{tip_at, is_key, node_at, item_in, link_in, link_at, path_to, with_holder, family_on, Stays, IsOn, IsSoundFamily, IsReleasing, IsPutLast}
+use Rattle.lineage.specs.Lineages.{tip_at, is_key, node_at, item_in, link_in, link_at, path_to, with_holder, family_on, Stays, IsOn, IsSoundFamily, IsReleasing, IsPathAdded}
 use Rattle.lineage.proofs.Climbs.{climb_unique}
 use Rattle.lineage.proofs.ClimbedPaths.{path_in_is, item_is}
 use Rattle.lineage.proofs.Counts.{one_if}
@@ -64,27 +64,27 @@ module _ {X : Type 0} (t : List (Option (Node X))) (tips : List (Option ℕ)) (t
   }
 
 module _ {X : Type 0} (s t u : List (Option (Node X))) (tips now : List (Option ℕ)) (path : ℕ) (items : List X) (before : IsSoundFamily s tips) (within : path < length tips)
-    (put : IsPutLast s t tips now items) (sound : IsSoundFamily u (set tips path put.tip)) (stays : Stays t u) where
+    (added : IsPathAdded s t tips now items) (sound : IsSoundFamily u (set tips path added.tip)) (stays : Stays t u) where
   abbrev new : List (Option ℕ)
-  new = set tips path put.tip
+  new = set tips path added.tip
 
   abbrev keys : List ℕ
-  keys = path_to t put.tip
+  keys = path_to t added.tip
 
-  new_here : tip_at new path ≡ put.tip
-  new_here = get_or-set_same tips path put.tip None within
+  new_here : tip_at new path ≡ added.tip
+  new_here = get_or-set_same tips path added.tip None within
 
   keeps : (k : ℕ) (next : Option ℕ) → link_at s k ≡ Some next → link_at t k ≡ Some next
   keeps k next e =
       let n = node_from (node_at s k) next e in
-      ap link_in (put.kept k n.0 n.1.0) ∙ ap Some n.1.1
+      ap link_in (added.kept k n.0 n.1.0) ∙ ap Some n.1.1
 
   path_here : path_to u (tip_at new path) ≡ keys
   path_here = sym (path_stays u t (links_stay t u stays) (tip_at new path) (sound.ends path)) ∙ ap (path_to t) new_here
 
   path_other : (i : ℕ) → i ≢ path → path_to u (tip_at new i) ≡ path_to s (tip_at tips i)
   path_other i ne =
-      sym (path_stays u t (links_stay t u stays) (tip_at new i) (sound.ends i)) ∙ ap (path_to t) (get_or-set_other tips path i put.tip None ne)
+      sym (path_stays u t (links_stay t u stays) (tip_at new i) (sound.ends i)) ∙ ap (path_to t) (get_or-set_other tips path i added.tip None ne)
       ∙ path_stays s t keeps (tip_at tips i) (before.ends i)
 
   many : length (map (path_to s) tips) ≡ length tips
@@ -99,7 +99,7 @@ module _ {X : Type 0} (s t u : List (Option (Node X))) (tips now : List (Option 
 
   exchanged_paths : map (path_to u) new ≡ set (map (path_to s) tips) path keys
   exchanged_paths =
-      let a = length-map new (path_to u) in let b = length-set tips path put.tip in let c = length-set (map (path_to s) tips) path keys in let d = many in
+      let a = length-map new (path_to u) in let b = length-set tips path added.tip in let c = length-set (map (path_to s) tips) path keys in let d = many in
       let lengths : length (map (path_to u) new) ≡ length (set (map (path_to s) tips) path keys) = omega (arith, a, b, c, d) in
       ext_get_or [] (map (path_to u) new) (set (map (path_to s) tips) path keys) lengths (λ i lt. each i (cases_eq i path))
 
@@ -117,9 +117,9 @@ module _ {X : Type 0} (s t u : List (Option (Node X))) (tips now : List (Option 
   exchanged = record {
     keys = keys;
     paths = exchanged_paths;
-    items_are = map_on (item_at (family_on u new)) (λ k. item_in (node_at t k)) keys (λ k m. item_is u new k ∙ item_left path k (on_new k m)) ∙ put.items_are;
-    fresh = λ k m. item_is s tips k ∙ ap item_in (put.fresh k m);
-    kept = λ i k m off. item_is u new k ∙ item_left i k m ∙ ap item_in (put.others k off) ∙ sym (item_is s tips k);
+    items_are = map_on (item_at (family_on u new)) (λ k. item_in (node_at t k)) keys (λ k m. item_is u new k ∙ item_left path k (on_new k m)) ∙ added.items_are;
+    fresh = λ k m. item_is s tips k ∙ ap item_in (added.fresh k m);
+    kept = λ i k m off. item_is u new k ∙ item_left i k m ∙ ap item_in (added.others k off) ∙ sym (item_is s tips k);
     gone = λ k none. item_is u new k ∙ by k (node_at u k) refl none;
   }
     where
@@ -140,34 +140,34 @@ opened_sound {X} s tips sound room =
 
 -- a path is exchanged, from the effect of each step
 module _ {X : Type 0} (s reserved t : List (Option (Node X))) (tips room now after : List (Option ℕ)) (items : List X) (path : ℕ) (tip : Option ℕ) (sound : IsSoundFamily s tips)
-    (paths : path < length (map (path_to s) tips)) (slots : reserved ≡ s) (tips_same : room ≡ tips) (put_there : IsPutLast reserved t room now items)
+    (paths : path < length (map (path_to s) tips)) (slots : reserved ≡ s) (tips_same : room ≡ tips) (added_there : IsPathAdded reserved t room now items)
   where
     within_tips : path < length tips
     within_tips = let n = length-map tips (path_to s) in omega (arith, n, paths)
 
-    put_last : IsPutLast s t tips now items
-    put_last = subst (λ z. IsPutLast z t tips now items) slots (subst (λ xs. IsPutLast reserved t xs now items) tips_same put_there)
+    path_added : IsPathAdded s t tips now items
+    path_added = subst (λ z. IsPathAdded z t tips now items) slots (subst (λ xs. IsPathAdded reserved t xs now items) tips_same added_there)
 
     many_now : length now ≡ length tips + 1
-    many_now = ap length put_last.tips_are ∙ length_push tips put_last.tip
+    many_now = ap length path_added.tips_are ∙ length_push tips path_added.tip
 
     pub within_now : path < length now
     within_now = omega (arith, many_now, within_tips)
 
     module _ (value : tip ≡ get_or now path tip) (after_is : after ≡ swap_remove now path tip) where
-      set_tip : after ≡ set tips path put_last.tip
-      set_tip = after_is ∙ ap (λ xs. swap_remove xs path tip) put_last.tips_are ∙ swap_remove-push tips put_last.tip tip path within_tips
+      set_tip : after ≡ set tips path path_added.tip
+      set_tip = after_is ∙ ap (λ xs. swap_remove xs path tip) path_added.tips_are ∙ swap_remove-push tips path_added.tip tip path within_tips
 
       tip_was : tip_at tips path ≡ tip
       tip_was =
-          sym (get_or_read now path tip within_now value None ∙ ap (λ xs. tip_at xs path) put_last.tips_are ∙ get_or_append_left tips (put_last.tip ∷ []) None path within_tips)
+          sym (get_or_read now path tip within_now value None ∙ ap (λ xs. tip_at xs path) path_added.tips_are ∙ get_or_append_left tips (path_added.tip ∷ []) None path within_tips)
 
       pub replaced_first : IsReleasing t t after tip
       replaced_first =
           subst (λ xs. IsReleasing t t xs tip) (sym set_tip)
-          (subst (IsReleasing t t (set tips path put_last.tip)) tip_was (exchanged_first t tips put_last.tip path (subst (IsSoundFamily t) put_last.tips_are put_last.sound) within_tips))
+          (subst (IsReleasing t t (set tips path path_added.tip)) tip_was (exchanged_first t tips path_added.tip path (subst (IsSoundFamily t) path_added.tips_are path_added.sound) within_tips))
 
       pub all_exchanged : (u : List (Option (Node X))) → IsSoundFamily u after → Stays t u → IsExchanged (family_on s tips) (family_on u after) path items
       all_exchanged u done stays =
           subst (λ xs. IsExchanged (family_on s tips) (family_on u xs) path items) (sym set_tip)
-          (exchanged s t u tips now path items sound within_tips put_last (subst (IsSoundFamily u) set_tip done) stays)
+          (exchanged s t u tips now path items sound within_tips path_added (subst (IsSoundFamily u) set_tip done) stays)

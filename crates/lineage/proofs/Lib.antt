@@ -16,7 +16,7 @@ pub mod Releases
 pub mod Drops
 pub mod ReplacedItems
 pub mod LoneTips
-pub mod PutLast
+pub mod AddedPaths
 pub mod Exchanges
 pub mod ForksAbove
 pub mod SkippedClimbs

@@ -1,4 +1,4 @@
-pub mod KeyWords
+pub mod OptionalKeys
 pub mod Family
 pub mod Climbs
 pub mod Lineages

@@ -145,7 +145,7 @@ module _ {X : Type 0} where
   -- a path of new nodes with these items is added at the end of the list of paths, and all other
   -- nodes and paths are unchanged; s and `tips` are the nodes and tips before, t and `new` those
   -- after
-  pub record IsPutLast (s t : List (Option (Node X))) (tips new : List (Option ℕ)) (items : List X) : Type 0 where
+  pub record IsPathAdded (s t : List (Option (Node X))) (tips new : List (Option ℕ)) (items : List X) : Type 0 where
     pub sound : IsSoundFamily t new
     pub tip : Option ℕ
     pub tips_are : new ≡ tips ++ tip ∷ []

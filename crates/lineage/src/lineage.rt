@@ -11,10 +11,11 @@ mod exchange;
 mod fork;
 mod push;
 mod release;
+mod reserve;
 mod take_out;
 
 use crate::node::Node;
-pub use crate::node::{Key, KeyWord};
+pub use crate::node::{Key, OptionalKey};
 use slab::Slab;
 use std::alloc::{AllocError, Global};
 use std::marker::Model;
@@ -27,7 +28,7 @@ use std::mem;
 pub struct Lineage<X> {
     nodes: Slab<Node<X>>,
     // each path's last key
-    tips: Vec<KeyWord>,
+    tips: Vec<OptionalKey>,
 }
 
 impl<X> Model for Lineage<X> {
@@ -89,9 +90,9 @@ impl<X: Drop> Lineage<X> {
         self.tip(path).get()
     }
 
-    /// The last key of the path at an index, in the form that `climb` takes; no key if there is no
-    /// such path, or if the path has no item.
-    pub fn tip(&self, path: usize) -> KeyWord
+    /// The last key of the path at an index, in the form that `climb_step` takes; no key if there
+    /// is no such path, or if the path has no item.
+    pub fn tip(&self, path: usize) -> OptionalKey
         ensures { result ≡ last_of (path_in self.now path) }
     {
         tip_at(&self.tips, path)
@@ -167,7 +168,7 @@ impl<X: Drop> Lineage<X> {
     /// The item at `key`, which has to exist, and the key right before `key` in each path that has
     /// `key`, or no key if `key` is the first of a path.
     #[inline(always)]
-    pub fn step_up_from(&self, key: Key) -> (&X, KeyWord)
+    pub fn step_up_from(&self, key: Key) -> (&X, OptionalKey)
         requires { IsSome (item_at self.now key) }
         ensures item { Some result.0.now ≡ item_at self.now key }
         ensures each { (i : ℕ) (front back : List ℕ) → path_in self.now i ≡ front ++ key ∷ back
@@ -181,7 +182,7 @@ impl<X: Drop> Lineage<X> {
     /// and the key right before `at` in each path that has `at`, or no key if `at` is the first.
     /// `None` if `at` is no key (the walk has ended), or has no item.
     #[inline(always)]
-    pub fn climb(&self, at: KeyWord) -> Option<(Key, &X, KeyWord)>
+    pub fn climb_step(&self, at: OptionalKey) -> Option<(Key, &X, OptionalKey)>
         ensures key { IfSome result (λ s. at ≡ Some s.0) }
         ensures item { IfSome result (λ s. item_at self.now s.0 ≡ Some s.1.now) }
         ensures each { IfSome result (λ s. (i : ℕ) (front back : List ℕ)
@@ -208,12 +209,12 @@ impl<X: Drop> Lineage<X> {
 
 /// The last key of the path at an index; no key if there is no such path, or if the path has no
 /// item.
-fn tip_at(tips: &[KeyWord], path: usize) -> KeyWord
+fn tip_at(tips: &[OptionalKey], path: usize) -> OptionalKey
     ensures { result ≡ tip_at tips.now path }
 {
     match tips.get(path) {
         Some(tip) => *tip,
-        None => KeyWord::none(),
+        None => OptionalKey::none(),
     }
 }
 

@@ -11,49 +11,49 @@ pub type Key = usize;
 
 /// A key or no key, stored in one word. In contracts it is an option of a key.
 #[derive(Debug, Drop)]
-pub struct KeyWord {
+pub struct OptionalKey {
     // `usize::MAX` means no key: no slab has enough slots for such a key
     pub(crate) word: usize,
 }
 
-impl Model for KeyWord {
+impl Model for OptionalKey {
     ghost use Rattle.std.specs.Prelude.{ℕ, Option};
 
     ghost Value = { Option ℕ };
 
-    ghost use Rattle.lineage.specs.KeyWords.{key_of_word, word_of_key};
+    ghost use Rattle.lineage.specs.OptionalKeys.{key_of_word, word_of_key};
 
     ghost view = { λ a. key_of_word a.word };
 
     ghost inverse = { λ o. record { word = word_of_key o } };
 }
 
-impl Copy for KeyWord {}
+impl Copy for OptionalKey {}
 
-impl Clone for KeyWord {
+impl Clone for OptionalKey {
     ghost is_clone = { λ word copy. copy ≡ word };
 
-    fn clone(&self) -> Result<KeyWord, AllocError> {
+    fn clone(&self) -> Result<OptionalKey, AllocError> {
         Ok(*self)
     }
 }
 
-impl KeyWord {
+impl OptionalKey {
     /// No key, in one word.
     #[inline(always)]
-    pub(crate) fn none() -> KeyWord
+    pub(crate) fn none() -> OptionalKey
         ensures { result ≡ None }
     {
-        KeyWord { word: usize::MAX }
+        OptionalKey { word: usize::MAX }
     }
 
     /// This key, in one word. The key has to be less than the greatest word, which means no key.
     #[inline(always)]
-    pub(crate) fn of(key: Key) -> KeyWord
+    pub(crate) fn of(key: Key) -> OptionalKey
         requires { key < 2 ^ 64 - 1 }
         ensures { result ≡ Some key }
     {
-        KeyWord { word: key }
+        OptionalKey { word: key }
     }
 
     /// The key as an option; `None` if there is no key.
@@ -74,6 +74,6 @@ impl KeyWord {
 #[derive(Drop)]
 pub(crate) struct Node<X> {
     pub(crate) item: X,
-    pub(crate) above: KeyWord,
+    pub(crate) above: OptionalKey,
     pub(crate) holders: usize,
 }

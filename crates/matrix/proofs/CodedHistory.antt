@@ -38,10 +38,6 @@ IsKnownCode c x = (x ≡ c.initial) ⊎ ((q : ℕ) × ((k : ℕ) × (c.code q k 
 abbrev pub IsGreatestSoFar : Coded → ℕ → Type 0
 IsGreatestSoFar c x = (x ≡ 0) ⊎ IsKnownCode c x
 
--- `Some` is injective
-pub some_same : (x y : ℕ) → (let s : Option ℕ = Some x in s) ≡ Some y → x ≡ y
-some_same x y e = cc
-
 -- once a column has given a known code, the greatest one that it has given is known
 pub greatest_so_far_known : (c : Coded) (g x : ℕ) → IsGreatestSoFar c g → IsKnownCode c x → IsKnownCode c (max g x)
 greatest_so_far_known c g x h k = elim (cases_lt x g) [

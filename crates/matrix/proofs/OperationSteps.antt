@@ -3,12 +3,13 @@
 use Rattle.std.proofs.Common.{◌≡◌, ℕ, zero, suc, ◌+◌, ◌*◌, ◌<◌, ◌≤◌, ◌==◌, max, Bool, true, false, ◌∷◌, List, Option, Some, None, IsTrue, inl, inr, refl, sym, ap, subst, ◌∙◌, arith, eq-eqb, eqb-true, lt-ltb, ltb-true, ltb-false, ne_eqb}
 use Rattle.std.specs.Prelude.{◌/◌, ◌⊎◌, ⊤, nat_lt, if◌then◌else◌, length}
 use Rattle.std.proofs.lemmas.Bool.{cases_eq, cases_lt}
+use Rattle.std.proofs.lemmas.Option.{same_Some}
 use Rattle.frames.specs.declared.types.Op.{Op}
 use Rattle.frames.specs.declared.types.Op.TheVariants.{Read, Write}
 use Rattle.frames.proofs.Seen.{Seen}
 use Rattle.frames.proofs.Pointwise.{put, put_same, put_other, put_all}
 use Rattle.matrix.proofs.Codes.{writer_of}
-use Rattle.matrix.proofs.CodedHistory.{Coded, IsKnownCode, returned, is_write, counts_after, values_after, invoked, after_refusal, took_code, own_code_taken, own_other_codes, others_codes, known_after_taking, some_same}
+use Rattle.matrix.proofs.CodedHistory.{Coded, IsKnownCode, returned, is_write, counts_after, values_after, invoked, after_refusal, took_code, own_code_taken, own_other_codes, others_codes, known_after_taking}
 use Rattle.matrix.proofs.Phases.{Phase, Rests, WillRead, IsReading, WillWrite, IsWriting, PartShows, WritesCode, HasNoCode, HasTakenCode, KnowsColumn, ReadsPart, WritesRow, HoldsInPhase, Invariant, StaysFor, OverlapsGrow, holds_in_phase_later}
 use Rattle.matrix.proofs.PhaseSteps.{moves_in_place, taken_in_any_phase, recodes_same, invariant_after}
 
@@ -152,7 +153,7 @@ write_reaches_row n V p c v g z f parts lp is above names room h =
     (moves_in_place n V p c d (WillRead (Write v) n g) (WillWrite (Write v) 0 z) parts (λ b lb e. shows_before_row n p g c (Write v) z b (parts (p * n + b)) e)
     (λ t k y e. elim (cases_eq k (c.count p)) [
       | inl i ↦
-          (let same : z ≡ y = some_same z y (sym (own_code_taken p z c) ∙ ap (d.code p) (sym i) ∙ e) in
+          (let same : z ≡ y = same_Some z y (sym (own_code_taken p z c) ∙ ap (d.code p) (sym i) ∙ e) in
           (ap (writer_of n V) (sym same) ∙ names, inr same))
       | inr ne ↦ taken_in_any_phase n V p c (Write v) n g (WillWrite (Write v) 0 z) t k y (sym (own_other_codes p z k c ne) ∙ e)
     ])

@@ -2,6 +2,7 @@
 use Rattle.std.proofs.Common.{◌≡◌, ℕ, ◌+◌, ◌%◌, ◌<◌, ◌≤◌, max, Bool, true, false, List, [], ◌∷◌, ◌++◌, Option, Some, None, inl, inr, refl, sym, ap, subst, ◌∙◌, arith, append_assoc}
 use Rattle.std.specs.Prelude.{◌⊎◌, ⊤, if◌then◌else◌, ◌==◌}
 use Rattle.std.proofs.lemmas.Bool.{cases_eq, cases_lt}
+use Rattle.std.proofs.lemmas.Option.{same_Some}
 use Rattle.frames.specs.declared.types.Op.{Op}
 use Rattle.frames.specs.declared.types.Op.TheVariants.{Read, Write}
 use Rattle.frames.specs.declared.types.Event.{Event}
@@ -10,7 +11,7 @@ use Rattle.frames.specs.declared.types.StepEvents.{StepEvents}
 use Rattle.frames.specs.Recorded.{at_index, indexed}
 use Rattle.frames.proofs.Seen.{Allowed}
 use Rattle.frames.proofs.Pointwise.{put, put_same, put_other, put_all}
-use Rattle.matrix.proofs.CodedHistory.{Coded, IsKnownCode, returned, invoked, after_refusal, took_code, own_code_taken, own_other_codes, others_codes, EventChanges, TakesNewCode, MayTakeCode, StepChanges, uncoded, some_same}
+use Rattle.matrix.proofs.CodedHistory.{Coded, IsKnownCode, returned, invoked, after_refusal, took_code, own_code_taken, own_other_codes, others_codes, EventChanges, TakesNewCode, MayTakeCode, StepChanges, uncoded}
 use Rattle.frames.specs.correctness.Ranks.{Ranking, at_first, HasRank, after_rank, Ranked}
 
 -- the code of each process's writes, by number, if they have one
@@ -81,7 +82,7 @@ module _ (values : ℕ) (c d : Coded) (t : TakesNewCode values c d) where
         | inr ne ↦ inl (sym (others_codes t.process t.code_taken q k c ne) ∙ a)
         | inl e ↦ elim (cases_eq k (c.count t.process)) [
           | inr ne ↦ inl (ap (λ i. c.code i k) e ∙ sym (own_other_codes t.process t.code_taken k c ne) ∙ ap (λ i. (took_code t.process t.code_taken c).code i k) (sym e) ∙ a)
-          | inl i ↦ inr (e, (i, some_same t.code_taken x (sym (own_code_taken t.process t.code_taken c) ∙ sym (ap ((took_code t.process t.code_taken c).code t.process) i) ∙ ap (λ j. (took_code t.process t.code_taken c).code j k) (sym e) ∙ a)))
+          | inl i ↦ inr (e, (i, same_Some t.code_taken x (sym (own_code_taken t.process t.code_taken c) ∙ sym (ap ((took_code t.process t.code_taken c).code t.process) i) ∙ ap (λ j. (took_code t.process t.code_taken c).code j k) (sym e) ∙ a)))
         ]
       ]
 
@@ -115,7 +116,7 @@ module _ (values : ℕ) (c d : Coded) (t : TakesNewCode values c d) where
         above = λ q x w e u. elim (cases_eq q t.process) [
           | inr ne ↦ h.above q x w (others_codes t.process t.code_taken q (c.count q) c ne ∙ e) u
           | inl i ↦
-              (let same : t.code_taken ≡ x = some_same t.code_taken x (sym there ∙ ap (λ j. final_codes j (c.count j)) (sym i) ∙ u) in
+              (let same : t.code_taken ≡ x = same_Some t.code_taken x (sym there ∙ ap (λ j. final_codes j (c.count j)) (sym i) ∙ u) in
               let a : c.floor t.process < t.code_taken = t.above in
               let b : c.floor q ≡ c.floor t.process = ap c.floor i in
               (omega (arith, same, a, b), ap (λ j. j % values) (sym same) ∙ t.value ∙ ap c.value (sym i)))
@@ -377,7 +378,7 @@ module _ (values p v : ℕ) (c : Coded) (s : AreConsistent c) where
             rest = no_rank_more p (Some n) r.mine c.writing a.rest;
             issued = λ x k. elim (cases_eq x n) as (λ _. put n (Some v) r.values x ≡ Some (x % values)) [
               | inl i ↦ ap (put n (Some v) r.values) i ∙ put_same n (Some v) r.values ∙ ap Some (sym (g.1 ∙ put_same p v c.value)) ∙ ap (λ j. Some (j % values)) (sym i)
-              | inr ne ↦ put_other n x (Some v) r.values ne ∙ a.issued x (issued_else final_codes x (λ f. ne (sym (some_same n x (sym e ∙ f)))) k)
+              | inr ne ↦ put_other n x (Some v) r.values ne ∙ a.issued x (issued_else final_codes x (λ f. ne (sym (same_Some n x (sym e ∙ f)))) k)
             ];
             unissued = λ x ne.
                 (let other : x ≡ n → ⊥ = λ i. ne (inr (p, (z.count p, (omega arith, there ∙ ap Some (sym i))))) in

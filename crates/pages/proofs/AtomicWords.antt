@@ -15,7 +15,7 @@ use Rattle.frames.specs.OneWriter.{HasOneWriter}
 use Rattle.frames.specs.Recorded.{recorded}
 use Rattle.frames.specs.correctness.Verdicts.{Known, is_refused, counts, accepted, initially, returning, reading}
 use Rattle.frames.specs.correctness.Regularity.{in_progress, OnReturn, by_number, IsNumber, Numbered, IsAtomic}
-use Rattle.pages.specs.VerdictWords.{begins_or_ends, IsQuiet, InProgress, has_role, IsOneWriterHistory, ReturnedRead, during, afterwards, is_written, is_got, returned_reads, RecordsOneWriter}
+use Rattle.pages.specs.VerdictWords.{begins_or_ends, IsQuiet, InProgress, suits_role, IsOneWriterHistory, ReturnedRead, during, afterwards, is_written, is_got, returned_reads, RecordsOneWriter}
 use Rattle.pages.specs.LawWords.{returned_writes, IsWrite, NumbersRead, AreNumbered, IsAtomicInWords}
 use Rattle.pages.proofs.VerdictKnown.{no_event, HaveRoles, roles-right, history-left, noting, known, known-append, noting_split, writing_of_progress, progress_of_writing, noting_returned, known_grows, EndsWrites, ends_writes_after, reading_of_progress}
 use Rattle.pages.proofs.VerdictOverlaps.{in_progress_or_returns, still_unrefused, returned_unrefused, roles_since}
@@ -33,7 +33,7 @@ writes_first e es = length-cons_if_sum (is_written e.1) e (filter (λ x. is_writ
 writes-append : (xs ys : List (ℕ × Event)) → returned_writes (xs ++ ys) ≡ returned_writes xs + returned_writes ys
 writes-append xs ys = ap length (filter-append (λ e. is_written e.1) xs ys) ∙ length-append (filter (λ e. is_written e.1) xs) (filter (λ e. is_written e.1) ys)
 
-not_written_if_quiet : (e : Event) → begins_or_ends 0 e ≡ false → has_role e ≡ true → is_written e ≡ false
+not_written_if_quiet : (e : Event) → begins_or_ends 0 e ≡ false → suits_role e ≡ true → is_written e ≡ false
 not_written_if_quiet (Wrote p) q r = absurd (true≢false (sym r ∙ q))
 not_written_if_quiet e q r = refl
 
@@ -41,7 +41,7 @@ quiet_writes : (xs : List (ℕ × Event)) → IsQuiet 0 xs → HaveRoles xs → 
 quiet_writes [] q r = refl
 quiet_writes (e ∷ es) q r =
     let quiet = or_parts (begins_or_ends 0 e.1) (list_any (λ x. begins_or_ends 0 x.1) es) q in
-    let roles = and_parts (has_role e.1) (list_all (λ x. has_role x.1) es) r in
+    let roles = and_parts (suits_role e.1) (list_all (λ x. suits_role x.1) es) r in
     writes_first e es ∙ ap (λ b. cond b 1 0 + returned_writes es) (not_written_if_quiet e.1 quiet.0 roles.0) ∙ ap (λ n. 0 + n) (quiet_writes es quiet.1 roles.1) ∙ (omega arith)
 
 -- no write returns while one is in progress
@@ -91,7 +91,7 @@ return_now (Some v) k i p es later m d w z low high =
     ap (λ xs. get_or xs m d) (grown.1 ∙ append_assoc k.returned (v ∷ []) grown.0) ∙ get_or_at k.returned v grown.0 d m at in
     record { before = []; step = i; since = es; split = ap (λ q. (i, Wrote q) ∷ es) z; writing = w ∙ ap Some (sym value); count = at }
 
-return_head : (k : Known) (i : ℕ) (e : Event) (es later : List (ℕ × Event)) (m d : ℕ) → has_role e ≡ true → length k.returned ≤ m
+return_head : (k : Known) (i : ℕ) (e : Event) (es later : List (ℕ × Event)) (m d : ℕ) → suits_role e ≡ true → length k.returned ≤ m
     → m < length (noting (counts e (is_refused (es ++ later))) e k).returned
     → ReturnAt k ((i, e) ∷ es) later m (get_or (known (noting (counts e (is_refused (es ++ later))) e k) es later).returned m d)
 return_head k i (Wrote p) es later m d r low high = return_now k.writing k i p es later m d refl (eqb-true p 0 r) low high
@@ -117,7 +117,7 @@ return_at : (k : Known) (xs later : List (ℕ × Event)) (m d : ℕ) → HaveRol
     → ReturnAt k xs later m (get_or (known k xs later).returned m d)
 return_at k [] later m d r low high = let f : ⊥ = omega (arith, low, high) in absurd f
 return_at k (e ∷ es) later m d r low high =
-    let roles = and_parts (has_role e.1) (list_all (λ x. has_role x.1) es) r in
+    let roles = and_parts (suits_role e.1) (list_all (λ x. suits_role x.1) es) r in
     let k2 : Known = noting (counts e.1 (is_refused (es ++ later))) e.1 k in
     elim (cases_lt m (length k2.returned)) as (λ _. ReturnAt k (e ∷ es) later m (get_or (known k2 es later).returned m d)) [
       | inl now ↦ return_head k e.0 e.1 es later m d roles.0 low now

@@ -32,7 +32,7 @@ use Rattle.frames.specs.laws.OneWriter.{writer_zero, reader_is_not_zero}
 use Rattle.frames.specs.Recorded.{at_index, indexed}
 use Rattle.frames.specs.Recorded.{AllFit}
 use Rattle.frames.specs.Recorded.{first_configuration, recorded}
-use Rattle.pages.specs.VerdictWords.{begins_or_ends, IsQuiet, InProgress, has_role, Follows, IsWellFormed, RecordsWellFormed, RecordsOneWriter, RecordsJudged}
+use Rattle.pages.specs.VerdictWords.{begins_or_ends, IsQuiet, InProgress, suits_role, Follows, IsWellFormed, RecordsWellFormed, RecordsOneWriter, RecordsJudged}
 use Rattle.pages.proofs.VerdictKnown.{no_event, with_event, progress_still}
 use Rattle.pages.proofs.VerdictOverlaps.{parted_at, rest_then_later}
 use Rattle.pages.proofs.VerdictWords.{judged_in_words}
@@ -51,16 +51,16 @@ only_one (z ∷ w ∷ s) since x y h = cc h
 
 -- a well-formed history; and if `One` holds, then each process has its role in it
 record IsHistory (One : Type 0) (events : List (ℕ × Event)) : Type 0 where
-  roles : One → list_all (λ e. has_role e.1) events ≡ true
+  roles : One → list_all (λ e. suits_role e.1) events ≡ true
   follows : IsWellFormed events
 
 empty_is_history : {One : Type 0} → IsHistory One []
 empty_is_history = record { roles = λ one. refl; follows = λ earlier i e later s. absurd (no_event earlier (i, e) later s) }
 
 -- an event that can follow makes a longer history
-history_with : {One : Type 0} (before : List (ℕ × Event)) (i : ℕ) (e : Event) → IsHistory One before → Follows before e → (One → has_role e ≡ true) → IsHistory One (with_event before i e)
+history_with : {One : Type 0} (before : List (ℕ × Event)) (i : ℕ) (e : Event) → IsHistory One before → Follows before e → (One → suits_role e ≡ true) → IsHistory One (with_event before i e)
 history_with before i e h f r = record {
-  roles = λ one. list_all-append (λ x. has_role x.1) before ((i, e) ∷ []) ∙ ap (λ b. b && (has_role e && true)) (h.roles one) ∙ ap (λ b. b && true) (r one);
+  roles = λ one. list_all-append (λ x. suits_role x.1) before ((i, e) ∷ []) ∙ ap (λ b. b && (suits_role e && true)) (h.roles one) ∙ ap (λ b. b && true) (r one);
   follows = λ earlier j d later s. elim (parted_at before ((i, e) ∷ []) earlier later (j, d) s) [
     | inl second ↦
         let one = only_one second.0 later (i, e) (j, d) second.2 in
@@ -123,7 +123,7 @@ extends_twice p before first after x y a b =
     record { history = b.history; own = b.own; others = λ q z other is. b.others q z other (a.others q z other is) }
 
 -- one event of p, by which no other process begins or ends an operation, extends a history
-extends_event : {One : Type 0} (p : ℕ) (before : List (ℕ × Event)) (i : ℕ) (e : Event) (x : Option Op) → IsHistory One before → Follows before e → (One → has_role e ≡ true)
+extends_event : {One : Type 0} (p : ℕ) (before : List (ℕ × Event)) (i : ℕ) (e : Event) (x : Option Op) → IsHistory One before → Follows before e → (One → suits_role e ≡ true)
     → ((q : ℕ) → ¬ (q ≡ p) → begins_or_ends q e ≡ false) → HasPending p (with_event before i e) x → Extends One p before (with_event before i e) x
 extends_event p before i e x h f r alone own =
     record { history = history_with before i e h f r; own = own; others = λ q y other is. has_pending_still q y before i e (alone q other) is }
@@ -136,7 +136,7 @@ module _ {P : Type 0} (b : Behaviour P) where
   abbrev One : Type 0
   One = HasOneWriter b
 
-  role_of : (p : ℕ) (o : Op) → b.suits p o ≡ true → One → has_role (Invoke p o) ≡ true
+  role_of : (p : ℕ) (o : Op) → b.suits p o ≡ true → One → suits_role (Invoke p o) ≡ true
   role_of p (op.Write v) h one = eq-eqb p 0 (writer_zero b.values b.processes p v (one p (op.Write v) h))
   role_of p op.Read h one = let some = reader_is_not_zero b.values b.processes p (one p op.Read h) in grind (arith, nat_tests)
 
@@ -157,7 +157,7 @@ module _ {P : Type 0} (b : Behaviour P) where
       (has_pending_none p before i (Refused p layer) (eq-eqb p p refl) (λ o same. cc same))
 
   -- an event that begins or ends no operation extends a history, as the only event of a step
-  extends_only : (p : ℕ) (before : List (ℕ × Event)) (i : ℕ) (e : Event) (x : Option Op) → IsHistory One before → Follows before e → (One → has_role e ≡ true) → ((q : ℕ) → begins_or_ends q e ≡ false)
+  extends_only : (p : ℕ) (before : List (ℕ × Event)) (i : ℕ) (e : Event) (x : Option Op) → IsHistory One before → Follows before e → (One → suits_role e ≡ true) → ((q : ℕ) → begins_or_ends q e ≡ false)
       → HasPending p before x → Extends One p before (with_events before i (in_order (Some e) None)) x
   extends_only p before i e x h f r nobody own = extends_event p before i e x h f r (λ q other. nobody q) (has_pending_still p x before i e (nobody p) own)
 

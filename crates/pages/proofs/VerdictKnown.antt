@@ -14,26 +14,26 @@ use Rattle.frames.specs.declared.types.Event.{Event}
 use Rattle.frames.specs.declared.types.Event.TheVariants.{Invoke, Got, Wrote, Refused, Void, Stop, Chosen}
 use Rattle.frames.specs.declared.verdict.Reading.{Reading}
 use Rattle.frames.specs.correctness.Verdicts.{Known, refused_by, is_refused, counts, accepted, initially, invoked_now, returning, after, last_read, reading, has_returned, verdict_of_event, verdicts_from}
-use Rattle.pages.specs.VerdictWords.{begins_or_ends, IsQuiet, InProgress, has_role, Follows, IsOneWriterHistory, is_written, NoWriteReturns, is_got, returned_reads}
+use Rattle.pages.specs.VerdictWords.{begins_or_ends, IsQuiet, InProgress, suits_role, Follows, IsOneWriterHistory, is_written, NoWriteReturns, is_got, returned_reads}
 
 -- an empty list has no event
 pub no_event : (xs : List (ℕ × Event)) (x : ℕ × Event) (ys : List (ℕ × Event)) → ¬ ([] ≡ xs ++ x ∷ ys)
 no_event [] x ys h = cc h
 no_event (z ∷ xs) x ys h = cc h
 
--- each of these events suits the role of its process (`has_role`)
+-- each of these events suits the role of its process (`suits_role`)
 abbrev pub HaveRoles : List (ℕ × Event) → Type 0
-HaveRoles events = list_all (λ e. has_role e.1) events ≡ true
+HaveRoles events = list_all (λ e. suits_role e.1) events ≡ true
 
 pub roles-left : (xs ys : List (ℕ × Event)) → HaveRoles (xs ++ ys) → HaveRoles xs
 roles-left [] ys h = refl
 roles-left (x ∷ xs) ys h =
-    let both = and_parts (has_role x.1) (list_all (λ e. has_role e.1) (xs ++ ys)) h in
-    ap (λ c. c && list_all (λ e. has_role e.1) xs) both.0 ∙ roles-left xs ys both.1
+    let both = and_parts (suits_role x.1) (list_all (λ e. suits_role e.1) (xs ++ ys)) h in
+    ap (λ c. c && list_all (λ e. suits_role e.1) xs) both.0 ∙ roles-left xs ys both.1
 
 pub roles-right : (xs ys : List (ℕ × Event)) → HaveRoles (xs ++ ys) → HaveRoles ys
 roles-right [] ys h = h
-roles-right (x ∷ xs) ys h = roles-right xs ys (and_parts (has_role x.1) (list_all (λ e. has_role e.1) (xs ++ ys)) h).1
+roles-right (x ∷ xs) ys h = roles-right xs ys (and_parts (suits_role x.1) (list_all (λ e. suits_role e.1) (xs ++ ys)) h).1
 
 -- the first events of a history are a history
 pub history-left : (xs ys : List (ℕ × Event)) → IsOneWriterHistory (xs ++ ys) → IsOneWriterHistory xs
@@ -67,7 +67,7 @@ returning_reads None k = refl
 returning_reads (Some v) k = refl
 
 -- an event that neither begins nor ends an operation of the writer leaves what is being written
-after_writing : (k : Known) (e : Event) → begins_or_ends 0 e ≡ false → has_role e ≡ true → (after k e).writing ≡ k.writing
+after_writing : (k : Known) (e : Event) → begins_or_ends 0 e ≡ false → suits_role e ≡ true → (after k e).writing ≡ k.writing
 after_writing k (Invoke p (op.Write v)) q r = absurd (true≢false (sym r ∙ q))
 after_writing k (Invoke p op.Read) q r = refl
 after_writing k (Got p v) q r = refl
@@ -77,7 +77,7 @@ after_writing k (Void p reason) q r = refl
 after_writing k (Stop p) q r = refl
 after_writing k (Chosen p bit v) q r = refl
 
-noting_writing : (counted : Bool) (k : Known) (e : Event) → begins_or_ends 0 e ≡ false → has_role e ≡ true → (noting counted e k).writing ≡ k.writing
+noting_writing : (counted : Bool) (k : Known) (e : Event) → begins_or_ends 0 e ≡ false → suits_role e ≡ true → (noting counted e k).writing ≡ k.writing
 noting_writing true k e q r = after_writing k e q r
 noting_writing false k e q r = refl
 
@@ -85,12 +85,12 @@ pub known_writing : (k : Known) (xs later : List (ℕ × Event)) → IsQuiet 0 x
 known_writing k [] later q r = refl
 known_writing k (e ∷ es) later q r =
     let quiet = or_parts (begins_or_ends 0 e.1) (list_any (λ x. begins_or_ends 0 x.1) es) q in
-    let roles = and_parts (has_role e.1) (list_all (λ x. has_role x.1) es) r in
+    let roles = and_parts (suits_role e.1) (list_all (λ x. suits_role x.1) es) r in
     let counted = counts e.1 (is_refused (es ++ later)) in
     known_writing (noting counted e.1 k) es later quiet.1 roles.1 ∙ noting_writing counted k e.1 quiet.0 roles.0
 
 -- whether the write in progress is refused doesn't depend on events in which the writer is quiet
-quiet_refused_by : (e : Event) (later : Bool) → begins_or_ends 0 e ≡ false → has_role e ≡ true → refused_by e later ≡ later
+quiet_refused_by : (e : Event) (later : Bool) → begins_or_ends 0 e ≡ false → suits_role e ≡ true → refused_by e later ≡ later
 quiet_refused_by (Invoke p (op.Write v)) later q r = absurd (true≢false (sym r ∙ q))
 quiet_refused_by (Invoke p op.Read) later q r = refl
 quiet_refused_by (Got p v) later q r = refl
@@ -104,7 +104,7 @@ pub quiet_refused : (xs later : List (ℕ × Event)) → IsQuiet 0 xs → HaveRo
 quiet_refused [] later q r = refl
 quiet_refused (e ∷ es) later q r =
     let quiet = or_parts (begins_or_ends 0 e.1) (list_any (λ x. begins_or_ends 0 x.1) es) q in
-    let roles = and_parts (has_role e.1) (list_all (λ x. has_role x.1) es) r in
+    let roles = and_parts (suits_role e.1) (list_all (λ x. suits_role x.1) es) r in
     quiet_refused_by e.1 (is_refused (es ++ later)) quiet.0 roles.0 ∙ quiet_refused es later quiet.1 roles.1
 
 -- if a write of v is in progress and isn't refused later, `Known` has v as the value being written
@@ -140,14 +140,14 @@ progress_still p o before i e t h = record {
 abbrev WritingIsInProgress : Known → List (ℕ × Event) → List (ℕ × Event) → Type 0
 WritingIsInProgress k before later = (v : ℕ) → k.writing ≡ Some v → InProgress 0 (op.Write v) before × (is_refused later ≡ false)
 
-in_progress_after_other : (k : Known) (before : List (ℕ × Event)) (i : ℕ) (e : Event) (later : List (ℕ × Event)) → begins_or_ends 0 e ≡ false → has_role e ≡ true → WritingIsInProgress k before ((i, e) ∷ later)
+in_progress_after_other : (k : Known) (before : List (ℕ × Event)) (i : ℕ) (e : Event) (later : List (ℕ × Event)) → begins_or_ends 0 e ≡ false → suits_role e ≡ true → WritingIsInProgress k before ((i, e) ∷ later)
     → WritingIsInProgress k (with_event before i e) later
 in_progress_after_other k before i e later t r h v w =
     let was = h v w in
     (progress_still 0 (op.Write v) before i e t was.0, sym (quiet_refused_by e (is_refused later) t r) ∙ was.1)
 
 -- `WritingIsInProgress` holds also after one more event
-in_progress_after : (k : Known) (before : List (ℕ × Event)) (i : ℕ) (e : Event) (later : List (ℕ × Event)) → Follows before e → has_role e ≡ true → WritingIsInProgress k before ((i, e) ∷ later)
+in_progress_after : (k : Known) (before : List (ℕ × Event)) (i : ℕ) (e : Event) (later : List (ℕ × Event)) → Follows before e → suits_role e ≡ true → WritingIsInProgress k before ((i, e) ∷ later)
     → WritingIsInProgress (noting (counts e (is_refused later)) e k) (with_event before i e) later
 in_progress_after k before i (Invoke p (op.Write u)) later f r h v w = by (is_refused later) refl w
   where
@@ -176,7 +176,7 @@ in_progress_after k before i (Chosen p bit u) later f r h v w = in_progress_afte
 in_progress_after_all : (k : Known) (before xs later : List (ℕ × Event)) → IsOneWriterHistory (before ++ xs) → WritingIsInProgress k before (xs ++ later) → WritingIsInProgress (known k xs later) (before ++ xs) later
 in_progress_after_all k before [] later h w = subst (λ b. WritingIsInProgress k b later) (sym (append-nil before)) w
 in_progress_after_all k before (e ∷ es) later h w =
-    let role = and_parts (has_role e.1) (list_all (λ x. has_role x.1) es) (roles-right before (e ∷ es) h.roles) in
+    let role = and_parts (suits_role e.1) (list_all (λ x. suits_role x.1) es) (roles-right before (e ∷ es) h.roles) in
     let one = in_progress_after k before e.0 e.1 (es ++ later) (h.follows before e.0 e.1 es refl) role.0 w in
     subst (λ b. WritingIsInProgress (known k (e ∷ es) later) b later) (append_assoc before (e ∷ []) es)
     (in_progress_after_all (noting (counts e.1 (is_refused (es ++ later))) e.1 k) (before ++ e ∷ []) es later (subst IsOneWriterHistory (sym (append_assoc before (e ∷ []) es)) h) one)
@@ -297,7 +297,7 @@ returning_adds (Some u) k v n w le h =
       ]
     ]
 
-among_head : (k : Known) (i : ℕ) (e : Event) (es later : List (ℕ × Event)) (v n : ℕ) → has_role e ≡ true → n ≤ length k.returned
+among_head : (k : Known) (i : ℕ) (e : Event) (es later : List (ℕ × Event)) (v n : ℕ) → suits_role e ≡ true → n ≤ length k.returned
     → has_returned v n (noting (counts e (is_refused (es ++ later))) e k) ≡ true → (has_returned v n k ≡ true) ⊎ ReturnedAmong k v ((i, e) ∷ es) later
 among_head k i (Wrote p) es later v n r le h =
     elim (returning_adds k.writing k v n refl le h) [
@@ -313,7 +313,7 @@ pub among_of_returned : (k : Known) (xs later : List (ℕ × Event)) (v n : ℕ)
     → (has_returned v n k ≡ true) ⊎ ReturnedAmong k v xs later
 among_of_returned k [] later v n r le h = inl h
 among_of_returned k (e ∷ es) later v n r le h =
-    let roles = and_parts (has_role e.1) (list_all (λ x. has_role x.1) es) r in
+    let roles = and_parts (suits_role e.1) (list_all (λ x. suits_role x.1) es) r in
     let counted = counts e.1 (is_refused (es ++ later)) in
     let grown = noting_grows counted k e.1 in
     let longer : n ≤ length (noting counted e.1 k).returned = rw grown.1 (simp length-append (omega arith)) in

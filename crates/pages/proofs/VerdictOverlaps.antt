@@ -11,7 +11,7 @@ use Rattle.frames.specs.declared.types.Layer.{Layer}
 use Rattle.frames.specs.declared.types.Event.{Event}
 use Rattle.frames.specs.declared.types.Event.TheVariants.{Invoke, Got, Wrote, Refused, Void, Stop, Chosen}
 use Rattle.frames.specs.correctness.Verdicts.{refused_by, is_refused}
-use Rattle.pages.specs.VerdictWords.{begins_or_ends, IsQuiet, InProgress, has_role, Follows, IsOneWriterHistory, EndsBy, IsOverlapping}
+use Rattle.pages.specs.VerdictWords.{begins_or_ends, IsQuiet, InProgress, suits_role, Follows, IsOneWriterHistory, EndsBy, IsOverlapping}
 use Rattle.pages.proofs.VerdictKnown.{HaveRoles, roles-left, roles-right, history-left, quiet_refused}
 
 -- A write of the value v, in progress until then, returns in `during`; it was invoked in `earlier`
@@ -97,7 +97,7 @@ parted_at (z ∷ xs) ys (w ∷ before) since x h =
     ]
 
 -- the boundary that follows a write in progress, and isn't its refusal, is its return
-return_of_boundary : (v : ℕ) (before : List (ℕ × Event)) (e : Event) → InProgress 0 (op.Write v) before → Follows before e → begins_or_ends 0 e ≡ true → has_role e ≡ true → ((layer : Layer) → ¬ (e ≡ Refused 0 layer)) → e ≡ Wrote 0
+return_of_boundary : (v : ℕ) (before : List (ℕ × Event)) (e : Event) → InProgress 0 (op.Write v) before → Follows before e → begins_or_ends 0 e ≡ true → suits_role e ≡ true → ((layer : Layer) → ¬ (e ≡ Refused 0 layer)) → e ≡ Wrote 0
 return_of_boundary v before (Invoke p o) w f t r n = absurd (f (op.Write v) (subst (λ q. InProgress q (op.Write v) before) (sym (eqb-true p 0 t)) w))
 return_of_boundary v before (Got p u) w f t r n = absurd (true≢false (sym t ∙ not-true (p == 0) r))
 return_of_boundary v before (Wrote p) w f t r n = ap Wrote (eqb-true p 0 t)
@@ -128,7 +128,7 @@ unfolding RefusedIn
 refusal_now true i p layer es e h later = (layer, record { before = []; step = i; later = es; split = ap (λ q. (i, Refused q layer) ∷ es) (eqb-true p 0 e); quiet = refl })
 refusal_now false i p layer es e h later = refusal_after (i, Refused p layer) es e (later h)
 
-refusal_head : (i : ℕ) (e : Event) (es : List (ℕ × Event)) → has_role e ≡ true → refused_by e (is_refused es) ≡ true → (is_refused es ≡ true → RefusedIn es) → RefusedIn ((i, e) ∷ es)
+refusal_head : (i : ℕ) (e : Event) (es : List (ℕ × Event)) → suits_role e ≡ true → refused_by e (is_refused es) ≡ true → (is_refused es ≡ true → RefusedIn es) → RefusedIn ((i, e) ∷ es)
 refusal_head i (Refused p layer) es r h later = refusal_now (p == 0) i p layer es refl h later
 refusal_head i (Wrote p) es r h later = absurd (true≢false (sym h))
 refusal_head i (Invoke p (op.Write v)) es r h later = absurd (true≢false (sym h))
@@ -142,7 +142,7 @@ refusal_head i (Chosen p bit v) es r h later = refusal_after (i, Chosen p bit v)
 refusal_of : (es : List (ℕ × Event)) → HaveRoles es → is_refused es ≡ true → RefusedIn es
 refusal_of [] r h = absurd (true≢false (sym h))
 refusal_of (e ∷ es) r h =
-    let roles = and_parts (has_role e.1) (list_all (λ x. has_role x.1) es) r in
+    let roles = and_parts (suits_role e.1) (list_all (λ x. suits_role x.1) es) r in
     refusal_head e.0 e.1 es roles.0 h (refusal_of es roles.1)
 
 -- a write that ends by its refusal is refused
@@ -182,7 +182,7 @@ in_progress_or_returns v xs later before step since whole split unrefused =
           let write : InProgress 0 (op.Write v) upto = record { earlier = before; step = step; since = f.before; split = refl; quiet = f.quiet } in
           let cut : xs ≡ upto ++ (f.step, f.event) ∷ f.since =
           split ∙ ap (λ es. before ++ x ∷ es) f.split ∙ sym (append_assoc before (x ∷ f.before) ((f.step, f.event) ∷ f.since)) in
-          let role = and_parts (has_role f.event) (list_all (λ e. has_role e.1) f.since) (roles-right upto ((f.step, f.event) ∷ f.since) (subst HaveRoles cut h.roles)) in
+          let role = and_parts (suits_role f.event) (list_all (λ e. suits_role e.1) f.since) (roles-right upto ((f.step, f.event) ∷ f.since) (subst HaveRoles cut h.roles)) in
           let kept : (layer : Layer) → ¬ (f.event ≡ Refused 0 layer) = λ layer e. unrefused layer
           (record {
             before = f.before;
@@ -245,7 +245,7 @@ returned_unrefused since rest later step quiet = λ layer e.
 pub roles_since : (xs later before since : List (ℕ × Event)) (x : ℕ × Event) → HaveRoles (xs ++ later) → xs ≡ before ++ x ∷ since → HaveRoles (since ++ later)
 roles_since xs later before since x roles split =
     let all = roles-right before (x ∷ (since ++ later)) (subst HaveRoles (ap (λ es. es ++ later) split ∙ append_assoc before (x ∷ since) later) roles) in
-    (and_parts (has_role x.1) (list_all (λ e. has_role e.1) (since ++ later)) all).1
+    (and_parts (suits_role x.1) (list_all (λ e. suits_role e.1) (since ++ later)) all).1
 
 pub words_of_crossing : (v : ℕ) (earlier during later : List (ℕ × Event)) → HaveRoles ((earlier ++ during) ++ later) → Crosses v earlier during later → IsOverlapping v earlier during later
 words_of_crossing v earlier during later roles (inl p) =

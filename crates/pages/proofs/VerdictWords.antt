@@ -10,7 +10,7 @@ use Rattle.frames.specs.declared.types.Event.TheVariants.{Got, Wrote}
 use Rattle.frames.specs.declared.verdict.Reading.{Reading}
 use Rattle.frames.specs.declared.verdict.Verdict.TheVariants.{Fresh, Overlap, Stray}
 use Rattle.frames.specs.correctness.Verdicts.{Known, accepted, initially, invoked_now, returning, after, reading, is_value, has_returned, overlaps, judged, verdicts_from, verdicts}
-use Rattle.pages.specs.VerdictWords.{InProgress, has_role, IsOneWriterHistory, ReturnedRead, during, afterwards, IsFresh, VerdictSays, IsVerdictOn, AreJudged}
+use Rattle.pages.specs.VerdictWords.{InProgress, suits_role, IsOneWriterHistory, ReturnedRead, during, afterwards, IsFresh, VerdictSays, IsVerdictOn, AreJudged}
 use Rattle.pages.proofs.VerdictOverlaps.{ReturnsIn, Crosses, crossing_of_words, words_of_crossing}
 use Rattle.pages.proofs.VerdictKnown.{HaveRoles, roles-left, roles-right, history-left, known, known-append, writing_of_progress, progress_of_writing, known_fresh, returned_among, ReturnedAmong, among_of_returned, EndsWrites, last_return, reading_of_progress, accepted_of, verdicts-append, length-verdicts_of, length-verdicts}
 
@@ -23,7 +23,7 @@ module _ (initial : ℕ) where
   pub ends_writes : (xs later : List (ℕ × Event)) → IsOneWriterHistory xs → EndsWrites (initially initial) xs later
   ends_writes xs later h before i p rest s =
       let roles : HaveRoles (before ++ (i, Wrote p) ∷ rest) = subst HaveRoles s h.roles in
-      let own = and_parts (has_role (Wrote p)) _ (roles-right before ((i, Wrote p) ∷ rest) roles) in
+      let own = and_parts (suits_role (Wrote p)) _ (roles-right before ((i, Wrote p) ∷ rest) roles) in
       let writer = eqb-true p 0 own.0 in
       let write = h.follows before i (Wrote p) rest s in
       let by_0 : InProgress 0 (op.Write write.0) before = subst (λ q. InProgress q (op.Write write.0) before) writer write.1 in

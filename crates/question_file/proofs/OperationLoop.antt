@@ -4,7 +4,9 @@ use Rattle.std.specs.Option.{option_map}
 use Rattle.std.specs.Str.{bytes_eq}
 use Rattle.frames.specs.declared.types.Op.{Op}
 use Rattle.frames.specs.declared.types.Op.TheVariants.{Write, Read}
-use Rattle.words.specs.Words.{◌>>=◌, is_end, number}
+use Rattle.words.specs.Words.{is_end}
+use Rattle.words.specs.Options.{◌>>=◌}
+use Rattle.words.specs.Numbers.{number}
 use Rattle.question_file.specs.Lines.{next_operation, after_operation, operations_from}
 
 -- the operations after one that is `r` (`is_read`), or `w` (`is_write`) and the value `v`, given

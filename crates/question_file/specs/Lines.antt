@@ -11,7 +11,9 @@ use Rattle.tower_file.specs.declared.fault.FileFault.{FileFault}
 use Rattle.tower_file.specs.Files.{File}
 use Rattle.tower_file.specs.Reading.{file_reading}
 use Rattle.tower_file.specs.Towers.{suits}
-use Rattle.words.specs.Words.{◌>>=◌, words, next, after_next, number, one_number, four_numbers}
+use Rattle.words.specs.Words.{words, next, after_next}
+use Rattle.words.specs.Options.{◌>>=◌}
+use Rattle.words.specs.Numbers.{number, one_number, four_numbers}
 use Rattle.question_file.specs.declared.fault.QuestionFaultKind.{QuestionFaultKind}
 use Rattle.question_file.specs.declared.fault.QuestionFaultKind.TheVariants.{BadLine, Shared, BadProcess, BadAfter, BadStop, BadMost}
 use Rattle.question_file.specs.Faults.{out_of_memory_kind}
@@ -112,7 +114,7 @@ tower_file_of line = codes "tower 1" ++ 10 ∷ line ++ 10 ∷ []
 
 -- the tower that a tower file has, or the kind of the file's fault
 abbrev pub tower_of_file : Result File FileFault → Result TowerSpec QuestionFaultKind
-tower_of_file (Ok f) = Ok f.spec
+tower_of_file (Ok f) = Ok f.tower
 tower_of_file (Err e) = Err (Shared e.kind)
 
 -- the tower of a line, or the line's fault: those of the tower file that has the line as its

@@ -45,7 +45,7 @@ pub(crate) fn tower_in(alloc: Global, line: &[u8]) -> Result<TowerSpec, Question
         return Err(OUT_OF_MEMORY);
     };
     match tower_file::parse(alloc, &text) {
-        Ok(file) => Ok(file.spec),
+        Ok(file) => Ok(file.tower),
         Err(fault) => Err(QuestionFaultKind::Shared(fault.kind)),
     }
 }

@@ -21,9 +21,9 @@ pub record AreNeighbours {P : Type 0} (b : Behaviour P) (Holds : Memory → Type
   pub second : Holds (part b.size b.size m)
 
 -- a process has an operation pending, and the stack has the operation's frames
-abbrev pub IsAtPoint : {P : Type 0} → Behaviour P → (ℕ → Op → P → Type 0) → ℕ → List Frame → Type 0
-IsAtPoint {P} b Reaches who stack = (o : Op) × ((p : P) × HasFramesFrom b.frames Reaches who 0 stack o p)
+abbrev pub IsPending : {P : Type 0} → Behaviour P → (ℕ → Op → P → Type 0) → ℕ → List Frame → Type 0
+IsPending {P} b Reaches who stack = (o : Op) × ((p : P) × HasFramesFrom b.frames Reaches who 0 stack o p)
 
--- as `IsAtPoint`, unless the operation has ended with an outcome
-abbrev pub IsAtPointUnlessEnded : {P : Type 0} → Behaviour P → (ℕ → Op → P → Type 0) → ℕ → List Frame → Option Outcome → Type 0
-IsAtPointUnlessEnded b Reaches who stack end = MatchOption end (IsAtPoint b Reaches who stack) (λ _. ⊤)
+-- as `IsPending`, unless the operation has ended with an outcome
+abbrev pub IsPendingUnlessEnded : {P : Type 0} → Behaviour P → (ℕ → Op → P → Type 0) → ℕ → List Frame → Option Outcome → Type 0
+IsPendingUnlessEnded b Reaches who stack end = MatchOption end (IsPending b Reaches who stack) (λ _. ⊤)

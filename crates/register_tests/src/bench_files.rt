@@ -35,7 +35,7 @@ fn assert_limb(rt: &impl Abort, name: &[u8], numbers: Numbers, expected: (&[u8],
 
 /// Asserts what `THREE_BRANCHES` says of each branch.
 fn assert_three_branches(rt: &impl Abort, file: &BenchFile) -> Result<(), Fail> {
-    assert!(rt; file.spec.is_lawful());
+    assert!(rt; file.tower.is_lawful());
     let [main, a, b] = file.limbs.as_slice() else {
         return Err("three limbs".into());
     };

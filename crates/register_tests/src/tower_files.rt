@@ -220,16 +220,16 @@ const UNARY: TowerSpec = TowerSpec::Unary {
 fn is_refused(
     alloc: Global,
     version: Version,
-    spec: TowerSpec,
+    tower: TowerSpec,
     steps: &[Step],
 ) -> Result<bool, AllocError> {
     let steps = Vec::from_slice(alloc, steps)?;
-    Ok(TowerFile::new(version, spec, steps).is_none())
+    Ok(TowerFile::new(version, tower, steps).is_none())
 }
 
 /// Asserts the tower and the text of a file of two steps of `UNARY`.
 fn assert_two_steps(rt: &impl Abort, alloc: Global, file: &TowerFile) -> Result<(), Fail> {
-    assert_eq!(rt; file.spec, UNARY);
+    assert_eq!(rt; file.tower, UNARY);
     assert_eq!(rt; file.steps.as_slice().len(), 2);
     let printed = print(alloc, file)?;
     assert_eq!(rt;

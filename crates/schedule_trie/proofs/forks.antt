@@ -1,5 +1,3 @@
-pub mod Division
-pub mod DivisionSteps
 pub mod Forks
 pub mod ForkSteps
 pub mod ForkCuts

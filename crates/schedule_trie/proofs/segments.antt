@@ -3,3 +3,5 @@ pub mod Notes
 pub mod CellHolders
 pub mod TouchedSegments
 pub mod StepSet
+pub mod Division
+pub mod DivisionSteps

@@ -6,7 +6,8 @@ use Rattle.std.specs.Fmt.{decimal}
 use Rattle.std.specs.Prelude.{Some}
 use Rattle.std.proofs.lemmas.Bool.{and_parts, and_from, ltb-true, leb-true}
 use Rattle.std.proofs.lemmas.Bool.Decides.{nat_tests}
-use Rattle.words.specs.Words.{words, number}
+use Rattle.words.specs.Words.{words}
+use Rattle.words.specs.Numbers.{number}
 use Rattle.words.proofs.Digits.{digit_bounds}
 use Rattle.words.proofs.Numbers.{decimal-number, digits-decimal, at_most_9_digits, digit_first}
 use Rattle.words.proofs.Texts.{all_weaker, all_append, is_not, cut_at, no_cut}

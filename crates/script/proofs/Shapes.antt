@@ -6,7 +6,8 @@ use Rattle.std.specs.Str.{bytes_eq}
 use Rattle.std.proofs.lemmas.Bool.{and_from, lt-ltb}
 use Rattle.std.proofs.lemmas.Bool.Decides.{nat_tests}
 use Rattle.std.proofs.lemmas.Option.{cond_some, same_Some}
-use Rattle.words.specs.Words.{next, after_next, is_end, number, one_number, two_numbers}
+use Rattle.words.specs.Words.{next, after_next, is_end}
+use Rattle.words.specs.Numbers.{number, one_number, two_numbers}
 use Rattle.words.proofs.Numbers.{decimal-number}
 use Rattle.words.proofs.Options.{some_then, some_mapped}
 use Rattle.words.proofs.NumberWords.{same_word}

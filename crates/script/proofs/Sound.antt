@@ -15,7 +15,8 @@ use Rattle.pages.specs.declared.query.Query.{Query}
 use Rattle.pages.specs.declared.query.Query.TheVariants.{State, Process, Bits, Pending, History, Verdict, Branches, Cursor, Steps}
 use Rattle.sessions.specs.declared.command.Command.{Command}
 use Rattle.sessions.specs.declared.command.Command.TheVariants as command
-use Rattle.words.specs.Words.{next, after_next, is_end, number, one_number, two_numbers}
+use Rattle.words.specs.Words.{next, after_next, is_end}
+use Rattle.words.specs.Numbers.{number, one_number, two_numbers}
 use Rattle.words.specs.Steps.{step_of_words}
 use Rattle.words.proofs.Options.{some_then}
 use Rattle.script.specs.declared.verb.Verb.{Verb}

@@ -2,7 +2,7 @@
 use Rattle.std.proofs.Common.{◌≡◌, ℕ, zero, suc, ◌+◌, ◌-◌, ◌<◌, ◌≤◌, Bool, true, false, nat_eq, cond, List, [], ◌∷◌, ◌++◌, length, map, take, refl, sym, ap, subst, ◌∙◌, arith, append_assoc, get_or, slice_index_or}
 use Rattle.std.specs.List.{list_any}
 use Rattle.std.specs.declared.sync.Arc.{Arc}
-use Rattle.checkpoints.specs.Segment.{SegmentRun, IsRun}
+use Rattle.checkpoints.specs.Runs.{SegmentRun, IsTrueRun}
 use Rattle.std.proofs.Math.Seq.{take-append-add}
 use Rattle.std.proofs.lemmas.List.{length-append, length-take, take-append-le, take-take, get_or-append-add, get_or_append_left, get_or-take}
 use Rattle.frames.specs.declared.types.Step.{Step}
@@ -167,7 +167,7 @@ module _ {R P : Type 0} (b : Behaviour P) where
 -- if the test is right for the first `count` steps of a run, as `ReportsPart` says, then it is
 -- right for their stored events, if no break is on a bit, and for the steps when they are replayed
 module _ {R P : Type 0} (is : R → Behaviour P) (breaks : List Break) (test : ℕ → Bool) (place : ℕ) (run : SegmentRun R P) (count : ℕ) (reports : ReportsPart is breaks test place (record { run = run; count = count })) where
-  pub events_report : IsRun (is run.entry.register) run → list_any is_on_bit breaks ≡ false → (i : ℕ) → i < length (take count run.events)
+  pub events_report : IsTrueRun (is run.entry.register) run → list_any is_on_bit breaks ≡ false → (i : ℕ) → i < length (take count run.events)
       → test ((place + 1) + i) ≡ is_any_met_by_events breaks (slice_index_or (take count run.events) i no_events)
   events_report true_run none i h =
       let within : i < count = omega (arith, h, length-take count run.events) in
@@ -177,7 +177,7 @@ module _ {R P : Type 0} (is : R → Behaviour P) (breaks : List Break) (test : �
       ∙ ap (λ events. is_any_met_by_events breaks (slice_index_or events i no_events)) (sym true_run.events)
       ∙ ap (is_any_met_by_events breaks) (sym (get_or-take count run.events i no_events within))
 
-  pub events_count : IsRun (is run.entry.register) run → length (take count run.events) ≡ count
+  pub events_count : IsTrueRun (is run.entry.register) run → length (take count run.events) ≡ count
   events_count true_run =
       let long : length run.events ≡ length run.steps = ap length true_run.events ∙ length-history (is run.entry.register) run.entry run.steps in
       omega (arith, length-take count run.events, long, reports.within)

@@ -6,7 +6,7 @@ ghost use Rattle.std.specs.Option.{option_or};
 ghost use Rattle.frames.specs.Recorded.{AllFit};
 ghost use Rattle.schedule_trie.specs.Trie.{forest};
 ghost use Rattle.cutoff.specs.Fitting.{counted, part_of};
-ghost use Rattle.cutoff.specs.Settles.{KeepsOrFills};
+ghost use Rattle.cutoff.specs.Settles.{KeepsOrSettles};
 ghost use Rattle.pages.specs.Breaks as breaks_spec;
 ghost use Rattle.views.specs.Looks.{IsChartKept, steps_in};
 ghost use Rattle.sessions.specs.Bounds.{FitsU32};
@@ -262,7 +262,7 @@ pub fn next_hit<R: Register>(
         (steps_in (forest chart.old.trie) branch.now) search.now.breaks.now in
         IfOk result (λ place. place ≡ next_place search.now.way search.now.from all) }
     ensures kept { IsChartKept chart.old chart.new }
-    ensures keeps { KeepsOrFills R.PartialEq.eq R.behaviour chart.old chart.new branch.now
+    ensures keeps { KeepsOrSettles R.PartialEq.eq R.behaviour chart.old chart.new branch.now
         (length (steps_in (forest chart.old.trie) branch.now)) }
 {
     let runs = settled(alloc, chart, branch)?;
@@ -284,7 +284,7 @@ fn settled<R: Register>(
         ≡ length (steps_in (forest chart.old.trie) branch.now)) }
     ensures room { IfOk result (λ runs. FitsU32 (counted runs)) }
     ensures kept { IsChartKept chart.old chart.new }
-    ensures keeps { KeepsOrFills R.PartialEq.eq R.behaviour chart.old chart.new branch.now
+    ensures keeps { KeepsOrSettles R.PartialEq.eq R.behaviour chart.old chart.new branch.now
         (length (steps_in (forest chart.old.trie) branch.now)) }
 {
     let Some(len) = chart.len(branch) else {

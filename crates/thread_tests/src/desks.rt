@@ -10,16 +10,16 @@ ghost use Rattle.desk.specs.Chairs.{IsChairOf};
 mod crossings;
 mod fills;
 mod forests;
-mod growths;
 mod guarded;
 mod limbs;
 mod many_edits;
 mod news;
 mod openings;
+mod out_of_memory;
 mod rounds;
-mod rows;
 mod side_by_side;
 mod threads;
+mod two_chairs;
 
 use self::openings::limits;
 use self::side_by_side::Work;

@@ -24,8 +24,9 @@ use Rattle.tower_file.specs.Spelling.{text_with_end, tower_text}
 use Rattle.tower_file.specs.BenchSpelling.{bench_header, branch_text, limb_text, bench_spelling, SpellsBench}
 use Rattle.tower_file.specs.Reading.{◌>>=◌, is_file_byte, reading_from}
 use Rattle.tower_file.specs.BenchReading.{limb_with_step, put_step, put_limb, then_branch, then_step, then_line, cut_line, limbs_of, bench_of_lines, bench_reading}
-use Rattle.words.specs.Words.{words, lines, next, after_next, is_end, two_numbers}
-use Rattle.words.specs.Steps.{word_with_numbers, step_text, HasShortNumbers}
+use Rattle.words.specs.Words.{words, lines, next, after_next, is_end, word_with_numbers}
+use Rattle.words.specs.Numbers.{two_numbers}
+use Rattle.words.specs.Steps.{step_text, HasShortNumbers}
 use Rattle.words.proofs.Numbers.{number-decimal}
 use Rattle.words.proofs.Texts.{is_not, is_printable, all_weaker, all_append, word_with_numbers_printable, words-word_with_numbers, cut_at}
 use Rattle.tower_file.proofs.Texts.{lines-line}
@@ -268,39 +269,39 @@ limbs_plain t e (l ∷ ls) small lawful fit =
 
 -- what makes the bench b lawful, part by part
 record HasLawfulParts (b : Bench) : Type 0 where
-  pub tower : is_lawful_tower b.spec ≡ true
+  pub tower : is_lawful_tower b.tower ≡ true
   pub nonempty : has_limbs b.limbs ≡ true
   pub after : are_lawful_after [] b.limbs ≡ true
-  pub fit : list_all (is_fitting b.spec) b.limbs ≡ true
+  pub fit : list_all (is_fitting b.tower) b.limbs ≡ true
 
 lawful_parts : (b : Bench) → IsLawfulBench b → HasLawfulParts b
 lawful_parts b h =
-    let a = and_parts (is_lawful_tower b.spec && has_limbs b.limbs) (are_lawful b.spec b.limbs) h in
-    let c = and_parts (is_lawful_tower b.spec) (has_limbs b.limbs) a.0 in
-    let d = and_parts (are_lawful_after [] b.limbs) (list_all (is_fitting b.spec) b.limbs) a.1 in
+    let a = and_parts (is_lawful_tower b.tower && has_limbs b.limbs) (are_lawful b.tower b.limbs) h in
+    let c = and_parts (is_lawful_tower b.tower) (has_limbs b.limbs) a.0 in
+    let d = and_parts (are_lawful_after [] b.limbs) (list_all (is_fitting b.tower) b.limbs) a.1 in
     record { tower = c.0; nonempty = c.1; after = d.0; fit = d.1 }
 
 -- the bytes of a bench file are cut into its lines
-lines-bench : (b : Bench) → HasLawfulParts b → lines (bench_spelling b) ≡ bench_header ∷ tower_text b.spec ∷ limb_lines b.limbs
+lines-bench : (b : Bench) → HasLawfulParts b → lines (bench_spelling b) ≡ bench_header ∷ tower_text b.tower ∷ limb_lines b.limbs
 lines-bench b h =
-    ap lines (append_assoc (text_with_end bench_header) (text_with_end (tower_text b.spec)) (limbs_text b.limbs))
-    ∙ lines-line bench_header (text_with_end (tower_text b.spec) ++ limbs_text b.limbs) refl
-    ∙ ap (λ ls. bench_header ∷ ls) (lines-line (tower_text b.spec) (limbs_text b.limbs) (tower_printable b.spec h.tower))
-    ∙ ap (λ ls. bench_header ∷ tower_text b.spec ∷ ls) (lines-limbs b.spec [] b.limbs (within_bounds b.spec h.tower) h.after h.fit)
+    ap lines (append_assoc (text_with_end bench_header) (text_with_end (tower_text b.tower)) (limbs_text b.limbs))
+    ∙ lines-line bench_header (text_with_end (tower_text b.tower) ++ limbs_text b.limbs) refl
+    ∙ ap (λ ls. bench_header ∷ ls) (lines-line (tower_text b.tower) (limbs_text b.limbs) (tower_printable b.tower h.tower))
+    ∙ ap (λ ls. bench_header ∷ tower_text b.tower ∷ ls) (lines-limbs b.tower [] b.limbs (within_bounds b.tower h.tower) h.after h.fit)
 
 -- no byte of a bench file is foreign
 bench_plain : (b : Bench) → HasLawfulParts b → list_all is_file_byte (bench_spelling b) ≡ true
 bench_plain b h =
-    all_append is_file_byte (text_with_end bench_header ++ text_with_end (tower_text b.spec)) (limbs_text b.limbs)
-    (all_append is_file_byte (text_with_end bench_header) (text_with_end (tower_text b.spec)) refl (line_plain (tower_text b.spec) (tower_printable b.spec h.tower)))
-    (limbs_plain b.spec [] b.limbs (within_bounds b.spec h.tower) h.after h.fit)
+    all_append is_file_byte (text_with_end bench_header ++ text_with_end (tower_text b.tower)) (limbs_text b.limbs)
+    (all_append is_file_byte (text_with_end bench_header) (text_with_end (tower_text b.tower)) refl (line_plain (tower_text b.tower) (tower_printable b.tower h.tower)))
+    (limbs_plain b.tower [] b.limbs (within_bounds b.tower h.tower) h.after h.fit)
 
 -- the lines of a bench file are read as it
-bench_again : (b : Bench) → HasLawfulParts b → bench_of_lines (bench_header ∷ tower_text b.spec ∷ limb_lines b.limbs) ≡ Ok b
+bench_again : (b : Bench) → HasLawfulParts b → bench_of_lines (bench_header ∷ tower_text b.tower ∷ limb_lines b.limbs) ≡ Ok b
 bench_again b h =
     let rest : List (List ℕ) = limb_lines b.limbs in
-    ap (λ (r : Result TowerSpec FileFault). r >>= λ t. limbs_of t 3 [] rest >>= λ limbs. Ok (bench_of t limbs)) (tower_of_lines b.spec rest (limb_lines_nonempty b.limbs) h.tower)
-    ∙ ap (λ (r : Result (List Limb) FileFault). r >>= λ limbs. Ok (bench_of b.spec limbs)) (limbs_again b.spec [] b.limbs (within_bounds b.spec h.tower) h.after h.fit h.nonempty 3)
+    ap (λ (r : Result TowerSpec FileFault). r >>= λ t. limbs_of t 3 [] rest >>= λ limbs. Ok (bench_of t limbs)) (tower_of_lines b.tower rest (limb_lines_nonempty b.limbs) h.tower)
+    ∙ ap (λ (r : Result (List Limb) FileFault). r >>= λ limbs. Ok (bench_of b.tower limbs)) (limbs_again b.tower [] b.limbs (within_bounds b.tower h.tower) h.after h.fit h.nonempty 3)
 
 -- the bytes of a bench file are read as it
 reading-bench_spelling : (b : Bench) → IsLawfulBench b → bench_reading (bench_spelling b) ≡ Ok b

@@ -12,7 +12,7 @@ use Rattle.tower_file.specs.BenchReading.{limbs_of, bench_reading}
 abbrev bench : Bench
 bench =
     record {
-      spec = Safe 0;
+      tower = Safe 0;
       limbs =
           record { name = codes "main"; from = 0; shared = 0; steps = Read 1 ∷ Write 0 1 ∷ [] }
           ∷ record { name = codes "a"; from = 0; shared = 1; steps = Go 1 0 ∷ [] }

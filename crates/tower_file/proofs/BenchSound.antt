@@ -21,8 +21,8 @@ use Rattle.tower_file.specs.Spelling.{text_with_end, tower_text}
 use Rattle.tower_file.specs.BenchSpelling.{bench_header, branch_text, SpellsBench}
 use Rattle.tower_file.specs.Reading.{◌>>=◌, has_header, tower_of}
 use Rattle.tower_file.specs.BenchReading.{put_step, put_limb, then_branch, then_step, then_line, cut_line, limbs_at_end, limbs_of, bench_of_lines}
-use Rattle.words.specs.Words.{words, next, after_next, is_end, two_numbers}
-use Rattle.words.specs.Steps.{word_with_numbers}
+use Rattle.words.specs.Words.{words, next, after_next, is_end, word_with_numbers}
+use Rattle.words.specs.Numbers.{two_numbers}
 use Rattle.words.proofs.Options.{some_then}
 use Rattle.words.proofs.NumberWords.{two_numbers_are, two_numbers_short, word_and_numbers_joined, same_word}
 use Rattle.tower_file.proofs.Readings.{bind_ok, ok_or_ok, when_ok, unless_ok, ok_is}

@@ -234,31 +234,31 @@ version_again One l ls = refl
 version_again Two l ls = refl
 
 -- the bytes of a tower file are cut into its lines
-lines-spelling : (f : File) → IsLawfulFile f → lines (spelling f) ≡ header f.version ∷ tower_text f.spec ∷ step_lines f.steps
+lines-spelling : (f : File) → IsLawfulFile f → lines (spelling f) ≡ header f.version ∷ tower_text f.tower ∷ step_lines f.steps
 lines-spelling f lawful =
-    let a = and_parts (is_lawful_tower f.spec) (list_all (may_have f.version f.spec) f.steps) lawful in
-    let small = within_bounds f.spec a.0 in
-    ap lines (append_assoc (text_with_end (header f.version)) (text_with_end (tower_text f.spec)) (schedule_text f.steps))
-    ∙ lines-line (header f.version) (text_with_end (tower_text f.spec) ++ schedule_text f.steps) (header_printable f.version)
-    ∙ ap (λ ls. header f.version ∷ ls) (lines-line (tower_text f.spec) (schedule_text f.steps) (tower_printable f.spec a.0))
-    ∙ ap (λ ls. header f.version ∷ tower_text f.spec ∷ ls) (lines-steps f.version f.spec f.steps small a.1)
+    let a = and_parts (is_lawful_tower f.tower) (list_all (may_have f.version f.tower) f.steps) lawful in
+    let small = within_bounds f.tower a.0 in
+    ap lines (append_assoc (text_with_end (header f.version)) (text_with_end (tower_text f.tower)) (schedule_text f.steps))
+    ∙ lines-line (header f.version) (text_with_end (tower_text f.tower) ++ schedule_text f.steps) (header_printable f.version)
+    ∙ ap (λ ls. header f.version ∷ ls) (lines-line (tower_text f.tower) (schedule_text f.steps) (tower_printable f.tower a.0))
+    ∙ ap (λ ls. header f.version ∷ tower_text f.tower ∷ ls) (lines-steps f.version f.tower f.steps small a.1)
 
 -- no byte of a tower file is foreign
 spelling_plain : (f : File) → IsLawfulFile f → list_all is_file_byte (spelling f) ≡ true
 spelling_plain f lawful =
-    let a = and_parts (is_lawful_tower f.spec) (list_all (may_have f.version f.spec) f.steps) lawful in
-    all_append is_file_byte (text_with_end (header f.version) ++ text_with_end (tower_text f.spec)) (schedule_text f.steps)
-    (all_append is_file_byte (text_with_end (header f.version)) (text_with_end (tower_text f.spec)) (line_plain (header f.version) (header_printable f.version)) (line_plain (tower_text f.spec) (tower_printable f.spec a.0)))
-    (steps_plain f.version f.spec f.steps (within_bounds f.spec a.0) a.1)
+    let a = and_parts (is_lawful_tower f.tower) (list_all (may_have f.version f.tower) f.steps) lawful in
+    all_append is_file_byte (text_with_end (header f.version) ++ text_with_end (tower_text f.tower)) (schedule_text f.steps)
+    (all_append is_file_byte (text_with_end (header f.version)) (text_with_end (tower_text f.tower)) (line_plain (header f.version) (header_printable f.version)) (line_plain (tower_text f.tower) (tower_printable f.tower a.0)))
+    (steps_plain f.version f.tower f.steps (within_bounds f.tower a.0) a.1)
 
 -- the lines of a tower file are read as it
-file_again : (f : File) → IsLawfulFile f → file_of_lines (header f.version ∷ tower_text f.spec ∷ step_lines f.steps) ≡ Ok f
+file_again : (f : File) → IsLawfulFile f → file_of_lines (header f.version ∷ tower_text f.tower ∷ step_lines f.steps) ≡ Ok f
 file_again f lawful =
-    let a = and_parts (is_lawful_tower f.spec) (list_all (may_have f.version f.spec) f.steps) lawful in
+    let a = and_parts (is_lawful_tower f.tower) (list_all (may_have f.version f.tower) f.steps) lawful in
     let rest : List (List ℕ) = step_lines f.steps in
-    ap (λ (o : Option Version). ok_or o (fault BadHeader 1) >>= λ v. tower_of (tower_text f.spec ∷ rest) >>= λ t. steps_of v t 3 rest >>= λ ss. Ok (file_of v t ss)) (version_again f.version (tower_text f.spec) rest)
-    ∙ ap (λ (r : Result TowerSpec FileFault). r >>= λ t. steps_of f.version t 3 rest >>= λ ss. Ok (file_of f.version t ss)) (tower_of_lines f.spec (step_lines f.steps) (step_lines_nonempty f.steps) a.0)
-    ∙ ap (λ (r : Result (List Step) FileFault). r >>= λ ss. Ok (file_of f.version f.spec ss)) (steps_again f.version f.spec 3 f.steps (within_bounds f.spec a.0) a.1)
+    ap (λ (o : Option Version). ok_or o (fault BadHeader 1) >>= λ v. tower_of (tower_text f.tower ∷ rest) >>= λ t. steps_of v t 3 rest >>= λ ss. Ok (file_of v t ss)) (version_again f.version (tower_text f.tower) rest)
+    ∙ ap (λ (r : Result TowerSpec FileFault). r >>= λ t. steps_of f.version t 3 rest >>= λ ss. Ok (file_of f.version t ss)) (tower_of_lines f.tower (step_lines f.steps) (step_lines_nonempty f.steps) a.0)
+    ∙ ap (λ (r : Result (List Step) FileFault). r >>= λ ss. Ok (file_of f.version f.tower ss)) (steps_again f.version f.tower 3 f.steps (within_bounds f.tower a.0) a.1)
 
 -- the bytes of a tower file are read as it
 reading-spelling : (f : File) → IsLawfulFile f → file_reading (spelling f) ≡ Ok f

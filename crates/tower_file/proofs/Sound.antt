@@ -20,7 +20,8 @@ use Rattle.tower_file.specs.declared.version.Version.TheVariants.{One, Two}
 use Rattle.tower_file.specs.Towers.{is_lawful_tower}
 use Rattle.tower_file.specs.Versions.{header, may_have}
 use Rattle.tower_file.specs.Files.{File, file_of}
-use Rattle.words.specs.Words.{words, next, after_next, is_end, one_number, two_numbers, three_numbers, four_numbers}
+use Rattle.words.specs.Words.{words, next, after_next, is_end}
+use Rattle.words.specs.Numbers.{one_number, two_numbers, three_numbers, four_numbers}
 use Rattle.words.specs.Steps.{step_of_words, step_text}
 use Rattle.tower_file.specs.Lines.{tower_name, tower_of_numbers, fitting_step}
 use Rattle.tower_file.specs.Spelling.{text_with_end, tower_text, spelling, Spells}

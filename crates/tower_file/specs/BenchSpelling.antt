@@ -2,7 +2,8 @@
 use Rattle.std.specs.Prelude.{◌≡◌, ℕ, List, [], ◌∷◌, ◌++◌, None, codes, true}
 use Rattle.std.specs.List.{flat_map, join_with_byte}
 use Rattle.branch_terms.specs.declared.limb.Limb.{Limb}
-use Rattle.words.specs.Steps.{word_with_numbers, step_text}
+use Rattle.words.specs.Words.{word_with_numbers}
+use Rattle.words.specs.Steps.{step_text}
 use Rattle.tower_file.specs.declared.tower.TowerSpec.{TowerSpec}
 use Rattle.tower_file.specs.Benches.{Bench, IsLawfulBench, has_limbs, are_lawful}
 use Rattle.tower_file.specs.Spelling.{text_with_end, tower_text}
@@ -24,7 +25,7 @@ limb_text l = text_with_end (branch_text l) ++ flat_map (λ s. text_with_end (st
 
 -- the bytes of a bench file: the lines of its header, its tower and its limbs
 abbrev pub bench_spelling : Bench → List ℕ
-bench_spelling b = text_with_end bench_header ++ text_with_end (tower_text b.spec) ++ flat_map limb_text b.limbs
+bench_spelling b = text_with_end bench_header ++ text_with_end (tower_text b.tower) ++ flat_map limb_text b.limbs
 
 -- These bytes spell this bench file: the file is lawful, and the bytes are its spelling.
 pub record SpellsBench (bytes : List ℕ) (b : Bench) : Type 0 where

@@ -8,12 +8,12 @@ use Rattle.tower_file.specs.Towers.{is_lawful_tower, fits}
 
 -- the contents of a bench file: a tower, and the limbs of a forest
 pub record Bench : Type 0 where
-  pub spec : TowerSpec
+  pub tower : TowerSpec
   pub limbs : List Limb
 
 -- the bench with this tower and these limbs
 abbrev pub bench_of : TowerSpec → List Limb → Bench
-bench_of t limbs = record { spec = t; limbs = limbs }
+bench_of t limbs = record { tower = t; limbs = limbs }
 
 -- whether there is at least one limb
 abbrev pub has_limbs : List Limb → Bool
@@ -33,7 +33,7 @@ are_lawful t limbs = are_lawful_after [] limbs && list_all (is_fitting t) limbs
 -- whether the tower is lawful, there is at least one limb, and a bench file on this tower can have
 -- these limbs
 abbrev pub is_lawful_bench : Bench → Bool
-is_lawful_bench b = (is_lawful_tower b.spec && has_limbs b.limbs) && are_lawful b.spec b.limbs
+is_lawful_bench b = (is_lawful_tower b.tower && has_limbs b.limbs) && are_lawful b.tower b.limbs
 
 -- The bench is lawful: its tower is lawful, there is at least one limb, and a bench file on that
 -- tower can have these limbs.

@@ -10,16 +10,16 @@ use Rattle.tower_file.specs.Versions.{may_have}
 -- the contents of a tower file: a version of the file format, a tower and a schedule
 pub record File : Type 0 where
   pub version : Version
-  pub spec : TowerSpec
+  pub tower : TowerSpec
   pub steps : List Step
 
 -- the file with this version, tower and steps
 abbrev pub file_of : Version → TowerSpec → List Step → File
-file_of v t steps = record { version = v; spec = t; steps = steps }
+file_of v t steps = record { version = v; tower = t; steps = steps }
 
 -- whether the tower is lawful, the version can express each step, and each step fits the tower
 abbrev pub is_lawful_file : File → Bool
-is_lawful_file f = is_lawful_tower f.spec && list_all (may_have f.version f.spec) f.steps
+is_lawful_file f = is_lawful_tower f.tower && list_all (may_have f.version f.tower) f.steps
 
 -- the file with this version, tower and steps; `None` if that file isn't lawful
 abbrev pub checked_file : Version → TowerSpec → List Step → Option File

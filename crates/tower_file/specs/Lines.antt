@@ -9,7 +9,9 @@ use Rattle.tower_file.specs.declared.line.TowerName.{TowerName}
 use Rattle.tower_file.specs.declared.line.TowerName.TheVariants.{Safe, Copies, Regular, Unary, Stamped, Matrix}
 use Rattle.branch_terms.specs.declared.limb.Limb.{Limb}
 use Rattle.branch_terms.specs.Names as names
-use Rattle.words.specs.Words.{◌>>=◌, words, next, after_next, one_number, two_numbers, three_numbers, four_numbers}
+use Rattle.words.specs.Words.{words, next, after_next}
+use Rattle.words.specs.Options.{◌>>=◌}
+use Rattle.words.specs.Numbers.{one_number, two_numbers, three_numbers, four_numbers}
 use Rattle.words.specs.Steps.{step_of_words}
 use Rattle.tower_file.specs.declared.version.Version.{Version}
 use Rattle.tower_file.specs.Versions.{may_have}

@@ -4,7 +4,8 @@ use Rattle.std.specs.List.{flat_map}
 use Rattle.frames.specs.declared.types.Step.{Step}
 use Rattle.tower_file.specs.declared.tower.TowerSpec.{TowerSpec}
 use Rattle.tower_file.specs.declared.tower.TowerSpec.TheVariants.{Safe, Copies, Regular, Unary, Stamped, Matrix}
-use Rattle.words.specs.Steps.{word_with_numbers, step_text}
+use Rattle.words.specs.Words.{word_with_numbers}
+use Rattle.words.specs.Steps.{step_text}
 use Rattle.tower_file.specs.Versions.{header}
 use Rattle.tower_file.specs.Files.{File, IsLawfulFile}
 
@@ -27,7 +28,7 @@ tower_text (Matrix processes values last_tag last_stamp) = word_with_numbers (co
 
 -- the bytes of a tower file: the header, the tower and the steps, each on a line
 abbrev pub spelling : File → List ℕ
-spelling f = text_with_end (header f.version) ++ text_with_end (tower_text f.spec) ++ schedule_text f.steps
+spelling f = text_with_end (header f.version) ++ text_with_end (tower_text f.tower) ++ schedule_text f.steps
 
 -- These bytes spell this tower file: the file is lawful, and the bytes are its spelling.
 pub record Spells (bytes : List ℕ) (f : File) : Type 0 where

@@ -18,10 +18,10 @@ use frames::types::Step;
 #[derive(Debug, Drop)]
 pub struct BenchFile {
     /// The tower.
-    pub spec: TowerSpec,
+    pub tower: TowerSpec,
     /// The limbs, in the order their branches were made.
     pub limbs: Limbs,
-    pub ghost lawful: { IsLawfulBench (bench_of spec limbs) },
+    pub ghost lawful: { IsLawfulBench (bench_of tower limbs) },
 }
 
 impl BenchFile {
@@ -33,12 +33,12 @@ impl BenchFile {
     /// Returns the file with this tower and these limbs. Returns `None` if the tower isn't lawful,
     /// there is no limb, the limbs aren't lawful (`branch_terms::limb::are_lawful`), or some limb
     /// has a `from` or `shared` of 10^9 or more or a step that doesn't fit the tower.
-    pub fn new(spec: TowerSpec, limbs: Vec<Limb>) -> Option<BenchFile>
-        ensures { option_map as_bench result ≡ checked_bench spec limbs.items }
+    pub fn new(tower: TowerSpec, limbs: Vec<Limb>) -> Option<BenchFile>
+        ensures { option_map as_bench result ≡ checked_bench tower limbs.items }
     {
-        let is_lawful = spec.is_lawful() && !limbs.is_empty();
-        if is_lawful && are_lawful(&limbs) && all_fit(&spec, &limbs) {
-            Some(BenchFile::of_lawful(spec, limbs))
+        let is_lawful = tower.is_lawful() && !limbs.is_empty();
+        if is_lawful && are_lawful(&limbs) && all_fit(&tower, &limbs) {
+            Some(BenchFile::of_lawful(tower, limbs))
         } else {
             None
         }
@@ -46,12 +46,12 @@ impl BenchFile {
 
     /// The file with this tower and these limbs. All that `BenchFile` says of a file's tower and
     /// limbs must hold of them.
-    pub fn of_lawful(spec: TowerSpec, limbs: Vec<Limb>) -> BenchFile
-        requires lawful { IsLawfulBench (bench_of spec limbs.items) }
-        ensures { as_bench result ≡ bench_of spec limbs.items }
+    pub fn of_lawful(tower: TowerSpec, limbs: Vec<Limb>) -> BenchFile
+        requires lawful { IsLawfulBench (bench_of tower limbs.items) }
+        ensures { as_bench result ≡ bench_of tower limbs.items }
     {
         BenchFile {
-            spec,
+            tower,
             limbs: Limbs::new(limbs),
         }
     }

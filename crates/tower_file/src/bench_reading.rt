@@ -28,7 +28,7 @@ use words::parts::Parts;
 use words::step::{is_word, step_of};
 
 /// Reads the first line. Returns whether it is a bench file's header and has a line end.
-fn has_header(lines: &mut Lines<'_>) -> bool
+fn take_header(lines: &mut Lines<'_>) -> bool
     ensures header { result ≡ reading.has_header bench_header lines.old }
     ensures left { lines.new ≡ after_next lines.old }
 {
@@ -154,7 +154,7 @@ fn bench_of_lines(alloc: Global, bytes: &[u8]) -> Result<BenchFile, FileFault>
     ensures memory { MemoryOnlyIf result (first_foreign bytes.now ≡ None → SpellsFront bytes.now) }
 {
     let mut lines = lines_of(bytes);
-    if !has_header(&mut lines) {
+    if !take_header(&mut lines) {
         return Err(fault(FaultKind::BadHeader, 1));
     }
     let tower = tower_of(&mut lines)?;
@@ -177,7 +177,7 @@ pub fn is_bench(bytes: &[u8]) -> bool
     ensures { result ≡ spec.is_bench bytes.now }
 {
     let mut lines = Lines::new(bytes);
-    has_header(&mut lines)
+    take_header(&mut lines)
 }
 
 /// Returns the bench file that the bytes spell. If they spell none, returns their first fault:

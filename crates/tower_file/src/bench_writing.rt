@@ -17,7 +17,7 @@ pub fn print_bench(alloc: Global, file: &BenchFile) -> Result<Vec<u8>, AllocErro
 {
     let mut out = Vec::new(alloc);
     push_line(&mut out, "bench 1", &[])?;
-    push_tower(&mut out, &file.spec)?;
+    push_tower(&mut out, &file.tower)?;
     for limb in file.limbs.as_slice() {
         push_limb(&mut out, limb)?;
     }

@@ -14,10 +14,10 @@ pub struct TowerFile {
     /// The version.
     pub version: Version,
     /// The tower.
-    pub spec: TowerSpec,
+    pub tower: TowerSpec,
     /// The schedule.
     pub steps: Steps,
-    pub ghost lawful: { IsLawfulFile (file_of version spec steps) },
+    pub ghost lawful: { IsLawfulFile (file_of version tower steps) },
 }
 
 impl TowerFile {
@@ -29,11 +29,11 @@ impl TowerFile {
     /// Returns the file with this version, tower and steps. Returns `None` if the tower isn't
     /// lawful, or if some step doesn't fit the tower or can't be expressed in this version, such as
     /// a stop in version 1.
-    pub fn new(version: Version, spec: TowerSpec, steps: Vec<Step>) -> Option<TowerFile>
-        ensures { option_map as_file result ≡ checked_file version spec steps.items }
+    pub fn new(version: Version, tower: TowerSpec, steps: Vec<Step>) -> Option<TowerFile>
+        ensures { option_map as_file result ≡ checked_file version tower steps.items }
     {
-        if spec.is_lawful() && may_have_all(version, &spec, &steps) {
-            Some(TowerFile::of_lawful(version, spec, steps))
+        if tower.is_lawful() && may_have_all(version, &tower, &steps) {
+            Some(TowerFile::of_lawful(version, tower, steps))
         } else {
             None
         }
@@ -41,13 +41,13 @@ impl TowerFile {
 
     /// The file with this version, tower and steps. The tower must be lawful. Each step must fit
     /// the tower, and be one that this version can express.
-    pub(crate) fn of_lawful(version: Version, spec: TowerSpec, steps: Vec<Step>) -> TowerFile
-        requires lawful { IsLawfulFile (file_of version spec steps.items) }
-        ensures { as_file result ≡ file_of version spec steps.items }
+    pub(crate) fn of_lawful(version: Version, tower: TowerSpec, steps: Vec<Step>) -> TowerFile
+        requires lawful { IsLawfulFile (file_of version tower steps.items) }
+        ensures { as_file result ≡ file_of version tower steps.items }
     {
         TowerFile {
             version,
-            spec,
+            tower,
             steps: Steps::new(steps),
         }
     }

@@ -1,7 +1,8 @@
 //! Writing a tower file.
 
 ghost use Rattle.std.specs.Prelude.{◌≡◌, ◌++◌, OnOk, IfOk};
-ghost use Rattle.words.specs.Steps.{word_with_numbers, step_text};
+ghost use Rattle.words.specs.Words.{word_with_numbers};
+ghost use Rattle.words.specs.Steps.{step_text};
 ghost use Rattle.tower_file.specs.Spelling.{Spells, text_with_end, tower_text};
 ghost use Rattle.tower_file.specs.Parsed.{as_file};
 
@@ -9,7 +10,8 @@ use crate::file::TowerFile;
 use crate::tower::TowerSpec;
 use frames::types::Step;
 use std::alloc::{AllocError, Global};
-use words::step::{push_step, push_word_with_numbers};
+use words::step::push_step;
+use words::text::push_word_with_numbers;
 
 /// Returns the bytes that spell `file`. The only error is that memory ran out.
 pub fn print(alloc: Global, file: &TowerFile) -> Result<Vec<u8>, AllocError>
@@ -17,7 +19,7 @@ pub fn print(alloc: Global, file: &TowerFile) -> Result<Vec<u8>, AllocError>
 {
     let mut out = Vec::new(alloc);
     push_line(&mut out, file.version.header(), &[])?;
-    push_tower(&mut out, &file.spec)?;
+    push_tower(&mut out, &file.tower)?;
     for step in file.steps.as_slice() {
         push_step_line(&mut out, *step)?;
     }

@@ -44,14 +44,14 @@ one_byte = streams (Some (33 ∷ [])) empty
 
 -- no line has an answer
 abbrev silent : Answering
-silent lines marks = []
+silent lines refused = []
 
 some_left : ◌≡◌ {A = List ℕ} (33 ∷ []) [] → ⊥
 some_left e = cc
 
 -- an empty script has no answers
 abbrev done : IsDone limits bench nothing nothing
-done = record { room = refl; answered = record { script = []; marks = λ number. false; read = refl; ended = refl; short = omega arith; wrote = refl } }
+done = record { room = refl; answered = record { script = []; refused = λ number. false; read = refl; ended = refl; short = omega arith; wrote = refl } }
 
 leaving : RanLeaving None limits (bench_spelling bench) nothing nothing
 leaving = record {
@@ -95,7 +95,7 @@ IsOfStreams-fails (stream.Memory, e) = cc
 
 -- the first read failed, so nothing was read or written
 EndsWithStreamFault-holds : EndsWithStreamFault silent fault.Read one_byte one_byte
-EndsWithStreamFault-holds = (stream.Read, refl, record { seen = []; marks = λ number. false; text = []; read = refl; few = omega arith; wrote = refl; went = refl })
+EndsWithStreamFault-holds = (stream.Read, refl, record { seen = []; refused = λ number. false; text = []; read = refl; few = omega arith; wrote = refl; went = refl })
 
 -- a save that failed isn't a fault of the script's streams
 EndsWithStreamFault-fails : EndsWithStreamFault silent fault.Save one_byte one_byte → ⊥

@@ -46,34 +46,34 @@ module _ {R P : Type 0} (is : R → Behaviour P) (o : Opening R) (can : CanOpen 
             room = room;
             answered = record {
               script = a.script;
-              marks = a.marks;
+              refused = a.refused;
               read = a.read;
               ended = a.ended;
               short = a.short;
-              wrote = subst (λ (c : Course). Appends before.written after.written (c.answering (lines_of a.script) a.marks)) (sym course_is) a.wrote;
+              wrote = subst (λ (c : Course). Appends before.written after.written (c.answering (lines_of a.script) a.refused)) (sym course_is) a.wrote;
             };
           }
 
-      pub left_at : (left : Bench) → left ≡ bench_of o.setup.bench.spec (limbs v.forest) → IsLeftBench limits_at (as_bench o.setup.bench) left before after
+      pub left_at : (left : Bench) → left ≡ bench_of o.setup.bench.tower (limbs v.forest) → IsLeftBench limits_at (as_bench o.setup.bench) left before after
       unfolding done_at
       left_at left is_left =
           let a = leaves.answered in
           record {
             done = done_at;
-            tower = ap (λ (b : Bench). b.spec) is_left;
-            branches = ap (λ (b : Bench). b.limbs) is_left ∙ ap limbs (ap (λ (x : World P). x.forest) leaves.left ∙ ap (λ (c : Course). c.leaving (lines_of a.script) a.marks) (sym course_is));
+            tower = ap (λ (b : Bench). b.tower) is_left;
+            branches = ap (λ (b : Bench). b.limbs) is_left ∙ ap limbs (ap (λ (x : World P). x.forest) leaves.left ∙ ap (λ (c : Course). c.leaving (lines_of a.script) a.refused) (sym course_is));
           }
 
       same_tower : HasTowerAndLimitsOf w v
       same_tower =
           let a = leaves.answered in
-          subst (HasTowerAndLimitsOf w) (sym leaves.left) (tower_unchanged w (lines_of a.script) a.marks)
+          subst (HasTowerAndLimitsOf w) (sym leaves.left) (tower_unchanged w (lines_of a.script) a.refused)
 
-      pub on_tower_at : IsOnTower o.setup.bench.spec v
+      pub on_tower_at : IsOnTower o.setup.bench.tower v
       on_tower_at =
           let limits = sym (same_tower.limits ∙ ap (λ (x : World P). x.limits) at) in
           record {
-            lawful = tower_lawful o.setup.bench.spec o.setup.bench.limbs o.setup.bench.lawful;
+            lawful = tower_lawful o.setup.bench.tower o.setup.bench.limbs o.setup.bench.lawful;
             alike = λ s. can.builds.alike s ∙ ap (λ (b : Behaviour P). fits_step b s) (sym (same_tower.tower ∙ ap (λ (x : World P). x.tower) at));
             cells = subst (λ (l : Limits). l.cells ≤ MOST_CELLS_MADE) limits can.limits.few_cells;
             branches = subst (λ (l : Limits). l.branches ≤ 1024) limits can.limits.few_branches;

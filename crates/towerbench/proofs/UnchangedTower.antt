@@ -14,7 +14,7 @@ use Rattle.script.specs.declared.call.Line.{Line}
 use Rattle.script.specs.declared.call.Line.TheVariants as line
 use Rattle.script.specs.Lines.{read_line}
 use Rattle.script.specs.Answers.{carried_out, answer_line, answer_to, performed, without_memory}
-use Rattle.conversation.specs.Scripts.{Marks, ScriptProgress, after_lines, beginning, next_line}
+use Rattle.conversation.specs.Scripts.{RefusedMemory, ScriptProgress, after_lines, beginning, next_line}
 
 -- world v has the tower and the limits of world w
 pub record HasTowerAndLimitsOf {P : Type 0} (w v : World P) : Type 0 where
@@ -71,12 +71,12 @@ module _ {P : Type 0} where
   after_line memory n line.Bad w = unchanged w
   after_line memory n (line.Call c) w = after_request memory c.session c.request w
 
-  after_each_line : (marks : Marks) (lines : List (List ℕ)) (p : ScriptProgress (World P)) → HasTowerAndLimitsOf p.world (fold (next_line answer_line marks) p lines).world
-  after_each_line marks [] p = unchanged p.world
-  after_each_line marks (text ∷ lines) p =
-      let q = next_line answer_line marks p text in
-      unchanged_then p.world q.world _ (after_line (marks (p.lines + 1)) (p.lines + 1) (read_line text) p.world) (after_each_line marks lines q)
+  after_each_line : (refused : RefusedMemory) (lines : List (List ℕ)) (p : ScriptProgress (World P)) → HasTowerAndLimitsOf p.world (fold (next_line answer_line refused) p lines).world
+  after_each_line refused [] p = unchanged p.world
+  after_each_line refused (text ∷ lines) p =
+      let q = next_line answer_line refused p text in
+      unchanged_then p.world q.world _ (after_line (refused (p.lines + 1)) (p.lines + 1) (read_line text) p.world) (after_each_line refused lines q)
 
   -- the world after a script's lines has the tower and the limits of the world before them
-  pub tower_unchanged : (w : World P) (lines : List (List ℕ)) (marks : Marks) → HasTowerAndLimitsOf w (after_lines answer_line w lines marks).world
-  tower_unchanged w lines marks = after_each_line marks lines (beginning w)
+  pub tower_unchanged : (w : World P) (lines : List (List ℕ)) (refused : RefusedMemory) → HasTowerAndLimitsOf w (after_lines answer_line w lines refused).world
+  tower_unchanged w lines refused = after_each_line refused lines (beginning w)

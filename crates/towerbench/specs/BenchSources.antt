@@ -28,7 +28,7 @@ one_branch t steps = bench_of t (main_limb steps ∷ [])
 
 -- the bench of a tower file: its tower with a single branch `main`, which has the file's steps
 abbrev pub tower_file_bench : File → Bench
-tower_file_bench f = one_branch f.spec f.steps
+tower_file_bench f = one_branch f.tower f.steps
 
 -- what bytes are read as, or their first fault: given `true`, a bench file; given `false`, a tower
 -- file, whose steps become those of a branch `main`

@@ -11,19 +11,19 @@ use Rattle.schedule_trie.specs.declared.limits.Limits.{Limits}
 use Rattle.branch_terms.specs.Forest.{Forest}
 use Rattle.sessions.specs.World.{World, opening_of_limbs}
 use Rattle.script.specs.Answers.{answer_line}
-use Rattle.conversation.specs.Scripts.{Marks, after_lines, answers_to}
+use Rattle.conversation.specs.Scripts.{RefusedMemory, after_lines, answers_to}
 use Rattle.conversation.specs.Conversations.{Answering}
 
--- What scripts do. From a script's lines, and from marks that say which lines were refused memory,
--- `answering` gives the answers, and `leaving` gives the branches that the lines leave.
+-- What scripts do. From a script's lines, and from which of them were refused memory, `answering`
+-- gives the answers, and `leaving` gives the branches that the lines leave.
 pub record Course : Type 0 where
   pub answering : Answering
-  pub leaving : List (List ℕ) → Marks → Forest
+  pub leaving : List (List ℕ) → RefusedMemory → Forest
 
 -- the course of scripts (their answers, and the branches that they leave) whose first line finds
 -- this world
 abbrev pub course_from : {P : Type 0} → World P → Course
-course_from w = record { answering = answers_to answer_line w; leaving = λ lines marks. (after_lines answer_line w lines marks).world.forest }
+course_from w = record { answering = answers_to answer_line w; leaving = λ lines refused. (after_lines answer_line w lines refused).world.forest }
 
 -- the course of scripts (their answers, and the branches that they leave) on a tower from its
 -- initial value, with these limits and the branches of these limbs
@@ -38,4 +38,4 @@ course_of (Matrix processes values last_tag last_stamp) limits ls = course_from 
 -- the course of scripts (their answers, and the branches that they leave) on a bench, with these
 -- limits
 abbrev pub course_on : Bench → Limits → Course
-course_on b limits = course_of b.spec limits b.limbs
+course_on b limits = course_of b.tower limits b.limbs

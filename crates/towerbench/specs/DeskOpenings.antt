@@ -25,7 +25,7 @@ pub record Builds {R P : Type 0} (is : R → Behaviour P) (register : R) (value 
 pub record CanOpen {R P : Type 0} (is : R → Behaviour P) (o : Opening R) : Type 0 where
   pub value : o.value < (is o.register).values
   pub limits : AreOptionsInRange o.setup.options
-  pub builds : Builds is o.register o.value o.setup.bench.spec
+  pub builds : Builds is o.register o.value o.setup.bench.tower
 
 -- World w is one of tower t: this tower is lawful, the same steps fit it and the register of w, and
 -- the limits on cells and branches are at most the greatest that options can give.

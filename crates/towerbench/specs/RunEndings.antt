@@ -39,8 +39,8 @@ pub record IsDone (limits : Limits) (b : Bench) (before after : Streams) : Type 
 -- limbs of the branches that the script's lines left.
 pub record IsLeftBench (limits : Limits) (b left : Bench) (before after : Streams) : Type 0 where
   pub done : IsDone limits b before after
-  pub tower : left.spec ≡ b.spec
-  pub branches : left.limbs ≡ limbs ((course_on b limits).leaving (lines_of done.answered.script) done.answered.marks)
+  pub tower : left.tower ≡ b.tower
+  pub branches : left.limbs ≡ limbs ((course_on b limits).leaving (lines_of done.answered.script) done.answered.refused)
 
 -- A run of the program on this bench ended with this fault of its streams. The bench's branches are
 -- within the limits, and what was read and written is as `EndsWithFault` says for this fault.

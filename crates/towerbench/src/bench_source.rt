@@ -50,8 +50,8 @@ fn read_bench(alloc: Global, bytes: &[u8]) -> Result<BenchFile, FileFault>
         return parse_bench(alloc, bytes);
     }
     let file = parse(alloc, bytes)?;
-    let TowerFile { spec, steps, .. } = file;
-    Ok(one_branch(alloc, spec, steps)?)
+    let TowerFile { tower, steps, .. } = file;
+    Ok(one_branch(alloc, tower, steps)?)
 }
 
 /// A tower with one branch, `main`, which has these steps.
@@ -72,8 +72,8 @@ fn one_branch(alloc: Global, tower: TowerSpec, steps: Steps) -> Result<BenchFile
 
 /// The tower of a bench file. This tower is lawful.
 pub(crate) fn tower_of(bench: &BenchFile) -> TowerSpec
-    ensures tower { result ≡ bench.now.spec }
+    ensures tower { result ≡ bench.now.tower }
     ensures lawful { towers.is_lawful_tower result ≡ true }
 {
-    bench.spec
+    bench.tower
 }

@@ -130,13 +130,13 @@ where
     B::Pending: Send + Sync,
     requires value { opening.value < (B.behaviour opening.register).values }
     requires limits { AreOptionsInRange opening.setup.options }
-    requires builds { Builds B.behaviour opening.register opening.value opening.setup.bench.spec }
+    requires builds { Builds B.behaviour opening.register opening.value opening.setup.bench.tower }
     ensures { EndsFrom opening.setup reporting
         (streams (R.remaining reader.old) (W.contents writer.old))
         (streams (R.remaining reader.new) (W.contents writer.new)) result }
 {
     let fate = opening.setup.fate;
-    let tower = opening.setup.bench.spec;
+    let tower = opening.setup.bench.tower;
     let mut seat = match Seat::open(rt, alloc, opening) {
         Ok(seat) => seat,
         Err(refusal) => return Err(Fault::Refused(refusal)),

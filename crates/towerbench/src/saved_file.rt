@@ -3,7 +3,7 @@
 ghost use Rattle.std.specs.Prelude.{◌≡◌, ◌⊎◌, IfErr};
 
 use crate::fault::Fault;
-use conversation::saved_file::write_file;
+use conversation::written_file::write_file;
 use std::io::ErrorKind;
 use std::rt::Files;
 

@@ -10,7 +10,7 @@ use Rattle.frames.specs.Configuration.{Configuration, replayed}
 use Rattle.frames.specs.Recorded.{without_register}
 use Rattle.cutoff.specs.Fitting.{RunPart}
 use Rattle.cutoff.proofs.Fits.{register_kept, without_register_same}
-use Rattle.checkpoints.specs.Segment.{SegmentRun}
+use Rattle.checkpoints.specs.Runs.{SegmentRun}
 use Rattle.lru.specs.LruCache.{LruCache, lru_cache, promoted, put_entries}
 use Rattle.lru.proofs.CallerLemmas.{Contains-lookup, Contains-promoted, Contains-put_entries}
 use Rattle.pages.specs.declared.query.ConfigKind.{ConfigKind}

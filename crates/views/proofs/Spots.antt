@@ -4,7 +4,7 @@ use Rattle.std.specs.Option.{option_map, unwrap_or}
 use Rattle.std.specs.Cmp.{IsEquivalence}
 use Rattle.std.specs.Arc.{arc_value}
 use Rattle.std.specs.declared.sync.Arc.{Arc}
-use Rattle.checkpoints.specs.Segment.{SegmentRun, IsRun}
+use Rattle.checkpoints.specs.Runs.{SegmentRun, IsTrueRun}
 use Rattle.std.proofs.lemmas.Bool.{cases_lt}
 use Rattle.std.proofs.Math.Seq.{take-append-add}
 use Rattle.std.proofs.lemmas.List.{take_all, map-append, length-map, take-append-le}
@@ -134,7 +134,7 @@ module _ {R P : Type 0} (E : R → R → Bool) (equal : IsEquivalence E) (is : R
 
 -- one more part adds the events of its first steps to those of the parts before it
 pub events_more : {R P Z : Type 0} (is : R → Behaviour P) (runs : List (Arc (SegmentRun R P) Z × ℕ)) (i : ℕ) (x : Arc (SegmentRun R P) Z × ℕ) → i < length runs → x ≡ get_or runs i x
-    → IsRun (is (arc_value x.0).entry.register) (arc_value x.0) → parts_events is (map part_of (take (suc i) runs)) ≡ parts_events is (map part_of (take i runs)) ++ take x.1 (arc_value x.0).events
+    → IsTrueRun (is (arc_value x.0).entry.register) (arc_value x.0) → parts_events is (map part_of (take (suc i) runs)) ≡ parts_events is (map part_of (take i runs)) ++ take x.1 (arc_value x.0).events
 events_more is [] i x within e run = absurd (omega (arith, within))
 events_more {R} {P} {Z} is (y ∷ runs) zero x within e run =
     append-nil (part_events is (part_of y)) ∙ ap (λ (z : Arc (SegmentRun R P) Z × ℕ). part_events is (part_of z)) (sym e)

@@ -1,6 +1,6 @@
 -- What a lens, a cache of configurations, keeps for each place of a run.
 use Rattle.std.specs.Prelude.{ℕ, ◌≡◌, Contains}
-use Rattle.checkpoints.specs.Segment.{SegmentRun}
+use Rattle.checkpoints.specs.Runs.{SegmentRun}
 use Rattle.frames.specs.Behaviour.{Behaviour}
 use Rattle.frames.specs.Configuration.{Configuration}
 use Rattle.cutoff.specs.Fitting.{RunPart}

@@ -6,8 +6,8 @@ use Rattle.std.specs.Str.{bytes_eq}
 use Rattle.std.specs.Fmt.{decimal}
 use Rattle.std.proofs.lemmas.Option.{cond_some, same_Some}
 use Rattle.std.proofs.lemmas.Slice.Eq.{bytes_eq-Decides}
-use Rattle.words.specs.Words.{is_end, number, one_number, two_numbers, three_numbers, four_numbers}
-use Rattle.words.specs.Steps.{word_with_numbers}
+use Rattle.words.specs.Words.{is_end, word_with_numbers}
+use Rattle.words.specs.Numbers.{number, one_number, two_numbers, three_numbers, four_numbers}
 use Rattle.words.proofs.Numbers.{decimal-number}
 use Rattle.words.proofs.Texts.{join-words}
 use Rattle.words.proofs.Options.{some_then}

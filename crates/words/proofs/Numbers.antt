@@ -8,7 +8,7 @@ use Rattle.std.proofs.lemmas.Bool.{and_parts, and_from, or_cases, or_left, or_ri
 use Rattle.std.proofs.lemmas.Option.{cond_some}
 use Rattle.std.proofs.lemmas.Str.Parse.{IsDigitsTest, IsNumeralModel, numerals_by_value, digits_value_short}
 use Rattle.std.proofs.lemmas.Fmt.{decimal_digit, digits_decimal, digits_value-decimal, first_decimal, decimal_nonempty, length-decimal-le, decimal-digits_value}
-use Rattle.words.specs.Words.{is_number, number}
+use Rattle.words.specs.Numbers.{is_number, number}
 
 -- all these bytes are digits
 abbrev AreDigits : List ℕ → Type 0

@@ -7,8 +7,9 @@ use Rattle.std.specs.Str.{bytes_eq}
 use Rattle.std.proofs.lemmas.List.Splits.{join_with_byte-slice_split}
 use Rattle.frames.specs.declared.types.Step.{Step}
 use Rattle.frames.specs.declared.types.Step.TheVariants as step
-use Rattle.words.specs.Words.{words, next, after_next, one_number, two_numbers}
-use Rattle.words.specs.Steps.{step_of_words, word_with_numbers, step_text, HasShortNumbers}
+use Rattle.words.specs.Words.{words, next, after_next, word_with_numbers}
+use Rattle.words.specs.Numbers.{one_number, two_numbers}
+use Rattle.words.specs.Steps.{step_of_words, step_text, HasShortNumbers}
 use Rattle.words.proofs.Numbers.{number-decimal}
 use Rattle.words.proofs.Texts.{is_printable, word_with_numbers_printable, words-word_with_numbers}
 use Rattle.words.proofs.Options.{some_mapped}

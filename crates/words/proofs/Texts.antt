@@ -8,8 +8,7 @@ use Rattle.std.proofs.lemmas.Bool.Decides.{nat_tests}
 use Rattle.std.proofs.lemmas.List.{append-nil}
 use Rattle.std.proofs.lemmas.List.Folds.{list_all-append}
 use Rattle.std.proofs.lemmas.List.Splits.{slice_split-cons_yes, slice_split-cons_no}
-use Rattle.words.specs.Words.{parts, words}
-use Rattle.words.specs.Steps.{word_with_numbers}
+use Rattle.words.specs.Words.{parts, words, word_with_numbers}
 use Rattle.words.proofs.Digits.{digit_bounds}
 use Rattle.words.proofs.Numbers.{digits-decimal}
 

@@ -1,3 +1,5 @@
 pub mod Words
+pub mod Options
+pub mod Numbers
 pub mod Steps
 pub mod Fronts

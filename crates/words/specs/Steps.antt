@@ -1,11 +1,11 @@
 -- Steps as words, and as text.
-use Rattle.std.specs.Prelude.{ℕ, ◌<◌, ◌^◌, List, [], ◌∷◌, ◌++◌, Option, None, codes, decimal, if◌then◌else◌}
+use Rattle.std.specs.Prelude.{ℕ, ◌<◌, ◌^◌, List, [], ◌∷◌, Option, None, codes, if◌then◌else◌}
 use Rattle.std.specs.Option.{option_map}
-use Rattle.std.specs.List.{flat_map}
 use Rattle.std.specs.Str.{bytes_eq}
 use Rattle.frames.specs.declared.types.Step.{Step}
 use Rattle.frames.specs.declared.types.Step.TheVariants as step
-use Rattle.words.specs.Words.{next, after_next, one_number, two_numbers}
+use Rattle.words.specs.Words.{next, after_next, word_with_numbers}
+use Rattle.words.specs.Numbers.{one_number, two_numbers}
 
 -- the step that words spell as `w P V`, `r P`, `g P C` or `x P`, with no more words; `None` if they
 -- spell no step
@@ -16,10 +16,6 @@ step_of_words ws =
     else (if bytes_eq (next ws) (codes "g") then option_map (λ n. step.Go n.0 n.1) (two_numbers (after_next ws))
     else (if bytes_eq (next ws) (codes "x") then option_map (λ p. step.Stop p) (one_number (after_next ws))
     else None)))
-
--- a word and then, for each number, a space and the number in decimal
-abbrev pub word_with_numbers : List ℕ → List ℕ → List ℕ
-word_with_numbers word numbers = word ++ flat_map (λ n. 32 ∷ decimal n) numbers
 
 -- the text that spells a step: its letter and then, for each of its numbers, a space and the number
 abbrev pub step_text : Step → List ℕ

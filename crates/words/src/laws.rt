@@ -2,7 +2,8 @@
 
 ghost use Rattle.std.specs.Prelude.{◌≡◌, ℕ, ◌<◌, ◌^◌, ◌↔◌, List, Some, decimal};
 ghost use Rattle.frames.specs.declared.types.Step.{Step};
-ghost use Rattle.words.specs.Words.{number, words};
+ghost use Rattle.words.specs.Words.{words};
+ghost use Rattle.words.specs.Numbers.{number};
 ghost use Rattle.words.specs.Steps.{step_of_words, step_text, HasShortNumbers};
 
 /// A word is read as the number `n` exactly if `n` is below 10 ^ 9 and the word is the decimal form

@@ -4,7 +4,8 @@ ghost use Rattle.std.specs.Prelude.{◌≡◌, ◌≤◌, length, Some, None, if
 ghost use Rattle.std.specs.List.{list_all};
 ghost use Rattle.std.specs.Char.{is_ascii_digit};
 ghost use Rattle.std.specs.Str.Parse.{digits_value};
-ghost use Rattle.words.specs.Words as spec;
+ghost use Rattle.words.specs.Words.{next, after_next};
+ghost use Rattle.words.specs.Numbers as spec;
 
 use crate::parts::Parts;
 
@@ -42,8 +43,8 @@ fn value(word: &[u8]) -> Option<u32>
 
 /// Reads the next word as a number; `None` if it isn't one.
 fn next_number(words: &mut Parts<'_>) -> Option<u32>
-    ensures number { result ≡ spec.number (spec.next words.old) }
-    ensures left { words.new ≡ spec.after_next words.old }
+    ensures number { result ≡ spec.number (next words.old) }
+    ensures left { words.new ≡ after_next words.old }
 {
     number(words.next())
 }

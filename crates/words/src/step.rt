@@ -3,12 +3,12 @@
 ghost use Rattle.std.specs.Prelude.{◌≡◌, ◌++◌, ◌∷◌, [], OnOk};
 ghost use Rattle.std.specs.Str.{bytes_eq};
 ghost use Rattle.words.specs.Steps as spec;
+ghost use Rattle.words.specs.Words.{word_with_numbers};
 
 use crate::number::{one_number, two_numbers};
 use crate::parts::Parts;
-use crate::text::{push_number, push_text};
+use crate::text::{Pushed, push_numbers};
 use frames::types::Step;
-use std::alloc::AllocError;
 
 /// Reads the next words as a step; `None` if they spell no step, or if more words follow.
 pub fn step_of(words: &mut Parts<'_>) -> Option<Step>
@@ -28,7 +28,7 @@ pub fn step_of(words: &mut Parts<'_>) -> Option<Step>
 /// # Errors
 ///
 /// If memory runs out.
-pub fn push_step(out: &mut Vec<u8>, step: Step) -> Result<(), AllocError>
+pub fn push_step(out: &mut Vec<u8>, step: Step) -> Pushed
     ensures { OnOk result (out.new.items ≡ out.old.items ++ spec.step_text step) }
 {
     match step {
@@ -41,38 +41,12 @@ pub fn push_step(out: &mut Vec<u8>, step: Step) -> Result<(), AllocError>
 
 /// Adds a word of one letter at the end of `out` and then, for each number, a space and the number.
 /// Fails only if memory runs out.
-fn push_letter(out: &mut Vec<u8>, letter: u8, numbers: &[u32]) -> Result<(), AllocError>
+fn push_letter(out: &mut Vec<u8>, letter: u8, numbers: &[u32]) -> Pushed
     ensures { OnOk result
-        (out.new.items ≡ out.old.items ++ spec.word_with_numbers (letter ∷ []) numbers.now) }
+        (out.new.items ≡ out.old.items ++ word_with_numbers (letter ∷ []) numbers.now) }
 {
     out.push(letter)?;
     push_numbers(out, numbers)
-}
-
-/// Adds a word at the end of `out` and then, for each number, a space and the number. Fails only if
-/// memory runs out.
-pub fn push_word_with_numbers(
-    out: &mut Vec<u8>,
-    word: &str,
-    numbers: &[u32],
-) -> Result<(), AllocError>
-    ensures { OnOk result
-        (out.new.items ≡ out.old.items ++ spec.word_with_numbers word.now numbers.now) }
-{
-    push_text(out, word)?;
-    push_numbers(out, numbers)
-}
-
-/// Adds at the end of `out`, for each number, a space and the number. Fails only if memory runs
-/// out.
-fn push_numbers(out: &mut Vec<u8>, numbers: &[u32]) -> Result<(), AllocError>
-    ensures { OnOk result (out.new.items ≡ out.old.items ++ spec.word_with_numbers [] numbers.now) }
-{
-    for number in numbers {
-        out.push(b' ')?;
-        push_number(out, u64::from(*number))?;
-    }
-    Ok(())
 }
 
 /// Whether the bytes of `word` are those of `text`.

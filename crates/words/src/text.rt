@@ -1,6 +1,7 @@
 //! Texts that are built from pieces.
 
-ghost use Rattle.std.specs.Prelude.{◌≡◌, ◌++◌, OnOk, codes, decimal};
+ghost use Rattle.std.specs.Prelude.{◌≡◌, ◌++◌, [], OnOk, codes, decimal};
+ghost use Rattle.words.specs.Words.{word_with_numbers};
 
 use std::alloc::AllocError;
 
@@ -49,5 +50,27 @@ pub fn push_number(out: &mut Vec<u8>, number: u64) -> Pushed
     }
     push_number(out, number / 10)?;
     out.push(b'0' + (number % 10) as u8)?;
+    Ok(())
+}
+
+/// Adds a word at the end of `out` and then, for each number, a space and the number. Fails only if
+/// memory runs out.
+pub fn push_word_with_numbers(out: &mut Vec<u8>, word: &str, numbers: &[u32]) -> Pushed
+    ensures { OnOk result
+        (out.new.items ≡ out.old.items ++ word_with_numbers word.now numbers.now) }
+{
+    push_text(out, word)?;
+    push_numbers(out, numbers)
+}
+
+/// Adds at the end of `out`, for each number, a space and the number. Fails only if memory runs
+/// out.
+pub(crate) fn push_numbers(out: &mut Vec<u8>, numbers: &[u32]) -> Pushed
+    ensures { OnOk result (out.new.items ≡ out.old.items ++ word_with_numbers [] numbers.now) }
+{
+    for number in numbers {
+        out.push(b' ')?;
+        push_number(out, u64::from(*number))?;
+    }
     Ok(())
 }

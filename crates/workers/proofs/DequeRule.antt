@@ -113,7 +113,7 @@ module _ {J : Type 0} where
 
   -- a job keeps its number if more are dealt
   job_at_more : (jobs more : List J) (i : ℕ) (job : J) → IsJobAt jobs i job → IsJobAt (jobs ++ more) i job
-  job_at_more [] more i job at = absurd at
+  job_at_more [] more i job at = absurd (cc at)
   job_at_more (first ∷ jobs) more zero job at = at
   job_at_more (first ∷ jobs) more (suc i) job at = job_at_more jobs more i job at
 

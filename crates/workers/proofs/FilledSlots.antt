@@ -2,6 +2,7 @@
 use Rattle.std.proofs.Common.{◌≡◌, ◌≢◌, ℕ, zero, suc, ◌+◌, ◌-◌, ◌<◌, ◌≤◌, All, List, [], ◌∷◌, ◌++◌, length, map, replicate, set, get_or, sym, refl, ap, ◌∙◌, subst, append_assoc, append-nil, length-append, true≢false, arith}
 use Rattle.std.specs.Prelude.{Option, Some, None, IsSome}
 use Rattle.std.proofs.lemmas.List.{map-append, length-map}
+use Rattle.std.proofs.lemmas.Option.{slice_get_within}
 use Rattle.std.proofs.lemmas.List.Elements.{All-cons, All-head, All-push, All-same, All-tail}
 use Rattle.workers.specs.declared.hand.Hand.{Hand}
 use Rattle.workers.specs.declared.hand.Numbered.{Numbered}
@@ -61,14 +62,9 @@ module _ {J D : Type 0} (ends : J → D → Type 0) where
 
   -- an outcome of the job with the number i is an outcome at i
   pub outcome_at : (jobs : List J) (i : ℕ) (job : J) (o : D) → IsJobAt jobs i job → ends job o → IsOutcomeAt ends jobs i o
-  outcome_at [] i job o at of = absurd at
-  outcome_at (first ∷ jobs) zero job o at of = subst (λ (x : J). ends x o) (sym at) of
+  outcome_at [] i job o at of = absurd (cc at)
+  outcome_at (first ∷ jobs) zero job o at of = let is : first ≡ job = cc at in subst (λ (x : J). ends x o) (sym is) of
   outcome_at (first ∷ jobs) (suc i) job o at of = outcome_at jobs i job o at of
-
-  pub job_below : (jobs : List J) (i : ℕ) (job : J) → IsJobAt jobs i job → i < length jobs
-  job_below [] i job at = absurd at
-  job_below (first ∷ jobs) zero job at = omega arith
-  job_below (first ∷ jobs) (suc i) job at = omega (arith, job_below jobs i job at)
 
   pub outcome_below : (jobs : List J) (i : ℕ) (o : D) → IsOutcomeAt ends jobs i o → i < length jobs
   outcome_below [] i o at = absurd at
@@ -146,7 +142,7 @@ module _ {J D : Type 0} (ends : J → D → Type 0) where
 
   -- the job that the caller takes has a slot
   pub taken_within_slots : (jobs : List J) (v w : Hand J) (slots : List (Option D)) (x : Numbered J) → IsAtWork ends jobs v slots → HasTaken v (x ∷ []) w → x.index < length slots
-  taken_within_slots jobs v w slots x h took = omega (arith, job_below jobs x.index x.job (took_at jobs v w x h.known took), slots_length 0 v.taken jobs slots h.slotted)
+  taken_within_slots jobs v w slots x h took = omega (arith, slice_get_within jobs x.index x.job (took_at jobs v w x h.known took), slots_length 0 v.taken jobs slots h.slotted)
 
   -- a thief takes one more job, and adds its outcome to its list
   pub has_run_after_job : (jobs : List J) (v w : Hand J) (ran : List (Taken D)) (x : Numbered J) (o : D) → HasRunItsJobs ends jobs v ran → HasTaken v (x ∷ []) w → ends x.job o

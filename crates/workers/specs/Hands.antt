@@ -1,7 +1,8 @@
 -- The invariant of a crew's deque: each job that was dealt is in the deque, or was taken once. A
 -- hand is what the caller's end of the deque, or a thief's pass (its right to steal), knows of the
 -- deque. Ownership of the deque has 8 parts, which are divided among the hands.
-use Rattle.std.specs.Prelude.{◌≡◌, ℕ, zero, suc, ◌+◌, ◌<◌, ◌==◌, if◌then◌else◌, ◌≤◌, List, [], ◌∷◌, ◌++◌, length, map, All}
+use Rattle.std.specs.Prelude.{◌≡◌, ℕ, zero, suc, ◌+◌, ◌<◌, ◌==◌, if◌then◌else◌, ◌≤◌, List, [], ◌∷◌, ◌++◌, length, map, All, Some}
+use Rattle.std.specs.List.{slice_get}
 use mathlib.Core.Option.{some}
 use lib.ListN.{get_elem?}
 use Rattle.workers.specs.declared.hand.Hand.{Hand}
@@ -37,11 +38,9 @@ module _ {J : Type 0} where
   abbrev pub numbers : List (Numbered J) → List ℕ
   numbers items = map (λ item. item.index) items
 
-  -- the job with this number in the list
+  -- this is the job with this number in the list
   abbrev pub IsJobAt : List J → ℕ → J → Type 0
-  IsJobAt [] number job = ⊥
-  IsJobAt (first ∷ jobs) zero job = first ≡ job
-  IsJobAt (first ∷ jobs) (suc number) job = IsJobAt jobs number job
+  IsJobAt jobs number job = slice_get jobs number ≡ Some job
 
   -- a hand with at least one part knows that `jobs` were dealt, and a hand with no part has taken
   -- no job

@@ -74,7 +74,7 @@ fn work<W: Wait, J: Runnable + Drop, G: Gate<W>>(
 /// caller's slots. If there is no memory for a thief, no more thieves are used. If no thread can be
 /// made for a thief, the caller does that thief's work itself, after its own; by then the deque is
 /// empty.
-fn share<R: Threads + Wait + Sync, J: Runnable + Send + Drop, G: Gate<R> + Sync>(
+fn work_with_thieves<R: Threads + Wait + Sync, J: Runnable + Send + Drop, G: Gate<R> + Sync>(
     rt: &R,
     alloc: Global,
     gate: &G,
@@ -119,7 +119,7 @@ where
                 (worker_view owner) slots.items }
             ensures { SameOwner owner result.0 × IsAtWork (IsDoneOf J.named J.gives)
                 (worker_view owner).jobs (worker_view result.0) result.1.items }
-        { share(rt, alloc, gate, thieves - 1, (owner, slots)) },
+        { work_with_thieves(rt, alloc, gate, thieves - 1, (owner, slots)) },
     );
     owner.absorb::<ComesBack>(thief.pass);
     put_all(&mut slots, thief.ran);
@@ -164,7 +164,7 @@ impl Crew {
         let count = jobs.len();
         let all = Vec::with_capacity(alloc, count)?;
         let workplace = deal(alloc, jobs)?;
-        let workplace = share(rt, alloc, gate, needed(thieves, count), workplace);
+        let workplace = work_with_thieves(rt, alloc, gate, needed(thieves, count), workplace);
         let (_, slots) = work(rt, alloc, gate, workplace);
         Ok(into_outcomes(slots, all))
     }

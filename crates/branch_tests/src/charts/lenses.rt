@@ -5,7 +5,7 @@ ghost use Rattle.std.specs.Prelude.{◌≡◌, ◌<◌, true};
 ghost use Rattle.views.specs.Looks.{is_at_branch};
 
 use super::counting::Counting;
-use super::rows::chart_of;
+use super::replay_counts::chart_of;
 use super::single::{edit, new_lens, slip_of, text_of, text_once_through, text_through};
 use super::steps::{Kind, step_of, writes};
 use crate::given::{name, none_wrong};

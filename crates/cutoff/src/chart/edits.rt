@@ -10,7 +10,7 @@ ghost use Rattle.schedule_trie.specs.Edits.{Insert, Remove, Replace, Fork, Detac
 ghost use Rattle.cutoff.specs.Edits.{Edits};
 
 use super::Chart;
-use crate::number::Number;
+use crate::number::RunNumber;
 use frames::register::Register;
 use frames::types::Step;
 use schedule_trie::edit::Edited;
@@ -35,7 +35,7 @@ impl<R: Register> Chart<R> {
         ensures { Edits self.old self.new (Insert branch.now place step) result }
     {
         self.mark = None;
-        self.fresh = Number::none();
+        self.fresh = RunNumber::none();
         self.trie.insert(alloc, branch, place, step)
     }
 
@@ -50,7 +50,7 @@ impl<R: Register> Chart<R> {
         ensures { Edits self.old self.new (Remove branch.now place) result }
     {
         self.mark = None;
-        self.fresh = Number::none();
+        self.fresh = RunNumber::none();
         self.trie.remove(branch, place)
     }
 
@@ -67,7 +67,7 @@ impl<R: Register> Chart<R> {
         ensures { Edits self.old self.new (Replace branch.now place step) result }
     {
         self.mark = None;
-        self.fresh = Number::none();
+        self.fresh = RunNumber::none();
         self.trie.replace(branch, place, step)
     }
 
@@ -85,7 +85,7 @@ impl<R: Register> Chart<R> {
         ensures { Edits self.old self.new (Fork branch.now place name) result }
     {
         self.mark = mark_after_fork(&self.trie, self.mark, branch, place);
-        self.fresh = Number::none();
+        self.fresh = RunNumber::none();
         self.trie.fork(alloc, branch, place, name)
     }
 
@@ -101,7 +101,7 @@ impl<R: Register> Chart<R> {
         ensures { Edits self.old self.new (Detach branch.now) result }
     {
         self.mark = None;
-        self.fresh = Number::none();
+        self.fresh = RunNumber::none();
         self.trie.detach(alloc, branch)
     }
 
@@ -116,7 +116,7 @@ impl<R: Register> Chart<R> {
         ensures { Edits self.old self.new (Drop branch.now) result }
     {
         self.mark = None;
-        self.fresh = Number::none();
+        self.fresh = RunNumber::none();
         self.trie.drop_branch(branch)
     }
 }

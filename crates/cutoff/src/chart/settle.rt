@@ -6,13 +6,13 @@ ghost use Rattle.std.specs.Option.{option_map};
 ghost use Rattle.frames.specs.Configuration.{initial_configuration};
 ghost use Rattle.schedule_trie.specs.Forest.{IsRefused, index_of, len_of, slots_in};
 ghost use Rattle.schedule_trie.specs.Trie.{forest};
-ghost use Rattle.cutoff.specs.Settles.{IsSettled, IsSettledLast, KeepsOrFills};
+ghost use Rattle.cutoff.specs.Settles.{IsSettled, IsSettledLast, KeepsOrSettles};
 ghost use Rattle.cutoff.specs.Charts.{look};
 ghost use Rattle.cutoff.specs.Fitting.{part_of};
 
 use super::Chart;
 use crate::known::Known;
-use crate::number::Number;
+use crate::number::RunNumber;
 use crate::prefix::rest_to;
 use crate::runs::{Spot, runs_in};
 use crate::settle_rest::{SettledLast, into_part, settle_rest};
@@ -42,7 +42,8 @@ impl<R: Register> Chart<R> {
         ensures found { OnOk result (look (forest self.old.trie) branch.now place
             ≡ Ok (forest self.new.trie)) }
         ensures err { IfErr result (IsRefused (look (forest self.old.trie) branch.now place)) }
-        ensures keeps { KeepsOrFills R.PartialEq.eq R.behaviour self.old self.new branch.now place }
+        ensures keeps { KeepsOrSettles R.PartialEq.eq R.behaviour self.old self.new branch.now
+            place }
         ensures begins { self.old.start ≡ initial_configuration
             (R.behaviour self.old.start.register) self.old.start.register self.old.value }
         ensures start { self.new.start ≡ self.old.start }
@@ -86,7 +87,8 @@ impl<R: Register> Chart<R> {
         ensures len { IfOk result (λ last.
             len_of (forest self.old.trie) branch.now ≡ Some last.len) }
         ensures err { IfErr result (IsRefused (look (forest self.old.trie) branch.now place)) }
-        ensures keeps { KeepsOrFills R.PartialEq.eq R.behaviour self.old self.new branch.now place }
+        ensures keeps { KeepsOrSettles R.PartialEq.eq R.behaviour self.old self.new branch.now
+            place }
         ensures begins { self.old.start ≡ initial_configuration
             (R.behaviour self.old.start.register) self.old.start.register self.old.value }
         ensures start { self.new.start ≡ self.old.start }
@@ -110,7 +112,7 @@ impl<R: Register> Chart<R> {
         let rest = rest_to(alloc, &self.trie, &self.start, &known, key)?;
         self.mark = None;
         // stored runs will be known to fit down to each one that is stored from now on
-        self.fresh = self.fresh.or(Number::peek(self.next));
+        self.fresh = self.fresh.or(RunNumber::peek(self.next));
         let (stored, replayed) = settle_rest(
             alloc,
             &mut self.trie,

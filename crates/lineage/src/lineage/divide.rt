@@ -5,9 +5,9 @@ ghost use Rattle.slab.specs.Slab.{get, slab_len, HasRoomFor, ContainsKey};
 ghost use Rattle.lineage.specs.Family.{IsAdded, item_at, divided_keys};
 ghost use Rattle.lineage.specs.Lineages.{node_over, node_under};
 
-use super::push::reserve_node;
+use super::reserve::reserve_node;
 use super::{Key, Lineage};
-use crate::node::{KeyWord, Node};
+use crate::node::{Node, OptionalKey};
 use slab::Slab;
 use std::alloc::AllocError;
 
@@ -50,6 +50,6 @@ pub(super) fn put_above<X>(nodes: &mut Slab<Node<X>>, key: Key, item: X) -> Key
         above,
         holders: 1,
     });
-    nodes[key].above = KeyWord::of(fresh);
+    nodes[key].above = OptionalKey::of(fresh);
     fresh
 }

@@ -3,12 +3,13 @@
 ghost use Rattle.std.specs.Prelude.{◌≡◌, ◌<◌, ◌≤◌, ◌+◌, ◌^◌, length, OnOk, OnErr, vec_capacity};
 ghost use Rattle.slab.specs.Slab.{slab_len, HasRoomFor};
 ghost use Rattle.lineage.specs.Family.{IsExchanged};
-ghost use Rattle.lineage.specs.Lineages.{IsSoundFamily, IsPutLast};
+ghost use Rattle.lineage.specs.Lineages.{IsSoundFamily, IsPathAdded};
 
 use super::Lineage;
 use super::push::push_node;
 use super::release::free_up;
-use crate::node::{KeyWord, Node};
+use super::reserve::reserve_path;
+use crate::node::{Node, OptionalKey};
 use slab::Slab;
 use std::alloc::AllocError;
 
@@ -19,52 +20,30 @@ impl<X: Drop> Lineage<X> {
     /// # Errors
     ///
     /// If there is no memory for the items. Then nothing changes, and the items are dropped.
-    pub fn replace_path(&mut self, path: usize, items: Vec<X>) -> Result<(), AllocError>
+    pub fn exchange_path(&mut self, path: usize, items: Vec<X>) -> Result<(), AllocError>
         requires { path < length self.old.paths }
         ensures ok { OnOk result (IsExchanged self.old self.new path items.items) }
         ensures err { OnErr result (self.new ≡ self.old) }
     {
         reserve_path(&mut self.nodes, &mut self.tips, items.len())?;
-        put_last(&mut self.nodes, &mut self.tips, items);
+        add_path(&mut self.nodes, &mut self.tips, items);
         let tip = self.tips.swap_remove(path);
         free_up(&mut self.nodes, tip);
         Ok(())
     }
 }
 
-/// Reserves memory for one more path, and for `count` more nodes. Fails if it can't, or if the
-/// paths and nodes together would then be too many for a word to count.
-pub(super) fn reserve_path<X>(
-    nodes: &mut Slab<Node<X>>,
-    tips: &mut Vec<KeyWord>,
-    count: usize,
-) -> Result<(), AllocError>
-    ensures slots { nodes.new.slots ≡ nodes.old.slots }
-    ensures items { tips.new.items ≡ tips.old.items }
-    ensures room { OnOk result (HasRoomFor nodes.new count) }
-    ensures space { OnOk result (length tips.new.items < vec_capacity tips.new) }
-    ensures few { OnOk result
-        (length tips.old.items + 1 + (slab_len nodes.old + count) < 2 ^ 64) }
-{
-    // the number of holders must fit in a word; if it might not, this reserve is sure to fail
-    if count >= (usize::MAX - nodes.len()).saturating_sub(tips.len()) {
-        tips.reserve(usize::MAX)?;
-        unreachable!();
-    }
-    nodes.reserve(count)?;
-    tips.reserve(1)
-}
-
 /// Adds a path of these new items at the end of the list of paths.
-fn put_last<X: Drop>(nodes: &mut Slab<Node<X>>, tips: &mut Vec<KeyWord>, items: Vec<X>)
+fn add_path<X: Drop>(nodes: &mut Slab<Node<X>>, tips: &mut Vec<OptionalKey>, items: Vec<X>)
     requires sound { IsSoundFamily nodes.old.slots tips.old.items }
     requires room { HasRoomFor nodes.old (length items.items) }
     requires space { length tips.old.items < vec_capacity tips.old }
     requires few { length tips.old.items + 1 + (slab_len nodes.old + length items.items) < 2 ^ 64 }
-    ensures { IsPutLast nodes.old.slots nodes.new.slots tips.old.items tips.new.items items.items }
+    ensures { IsPathAdded nodes.old.slots nodes.new.slots tips.old.items tips.new.items
+        items.items }
 {
     let last = tips.len();
-    tips.push_reserved(KeyWord::none());
+    tips.push_reserved(OptionalKey::none());
     for item in items {
         push_node(nodes, tips, last, item);
     }

@@ -1,14 +1,14 @@
 //! Adding a path that shares the beginning of others.
 
-ghost use Rattle.std.specs.Prelude.{◌≡◌, ◌<◌, ◌+◌, ◌^◌, ◌++◌, ◌∷◌, [], ℕ, length, Some, None, IfSome, IsSome, IfOk, OnOk, OnErr, vec_capacity};
+ghost use Rattle.std.specs.Prelude.{◌≡◌, ◌<◌, ◌+◌, ◌^◌, ◌++◌, ◌∷◌, [], ℕ, length, Some, None, IfSome, IsSome, IfOk, OnOk, OnErr};
 ghost use Rattle.slab.specs.Slab.{get, slab_len, ContainsKey};
 ghost use Rattle.lineage.specs.Family.{IsForked, IsForkedAbove, item_at};
 ghost use Rattle.lineage.specs.Lineages.{is_key, with_holder};
 
 use super::divide::put_above;
-use super::exchange::reserve_path;
+use super::reserve::{reserve_path, reserve_tip};
 use super::{Key, Lineage};
-use crate::node::{KeyWord, Node};
+use crate::node::{Node, OptionalKey};
 use slab::Slab;
 use std::alloc::AllocError;
 
@@ -27,7 +27,7 @@ impl<X: Drop> Lineage<X> {
     {
         reserve_tip(&mut self.tips, self.nodes.len())?;
         hold(&mut self.nodes, key);
-        self.tips.push_reserved(key_word(&self.nodes, key));
+        self.tips.push_reserved(optional_key(&self.nodes, key));
         Ok(())
     }
 
@@ -48,36 +48,21 @@ impl<X: Drop> Lineage<X> {
         reserve_path(&mut self.nodes, &mut self.tips, 1)?;
         let fresh = put_above(&mut self.nodes, key, item);
         hold(&mut self.nodes, Some(fresh));
-        self.tips.push_reserved(KeyWord::of(fresh));
+        self.tips.push_reserved(OptionalKey::of(fresh));
         Ok(fresh)
     }
 }
 
-/// Reserves memory for one more path; `nodes` is the number of nodes. Fails if it can't, or if the
-/// paths and nodes together would then be too many for a word to count.
-fn reserve_tip(tips: &mut Vec<KeyWord>, nodes: usize) -> Result<(), AllocError>
-    ensures items { tips.new.items ≡ tips.old.items }
-    ensures room { OnOk result (length tips.new.items < vec_capacity tips.new) }
-    ensures few { OnOk result (length tips.old.items + nodes + 1 < 2 ^ 64) }
-{
-    // the number of holders must fit in a word; if it might not, this reserve is sure to fail
-    if tips.len() >= usize::MAX - nodes {
-        tips.reserve(usize::MAX)?;
-        unreachable!();
-    }
-    tips.reserve(1)
-}
-
 /// `key`, which is `None` or the key of an existing item, in one word.
-fn key_word<X>(nodes: &Slab<Node<X>>, key: Option<Key>) -> KeyWord
+fn optional_key<X>(nodes: &Slab<Node<X>>, key: Option<Key>) -> OptionalKey
     requires { IfSome key (λ k. ContainsKey nodes.now k) }
     ensures { result ≡ key }
 {
     // for the proof: there are fewer than 2^64 slots, so no key is the word that means `None`
     let _most = nodes.capacity();
     match key {
-        Some(key) => KeyWord::of(key),
-        None => KeyWord::none(),
+        Some(key) => OptionalKey::of(key),
+        None => OptionalKey::none(),
     }
 }
 

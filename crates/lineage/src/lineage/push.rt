@@ -1,12 +1,13 @@
 //! Adding an item at the end of a path.
 
-ghost use Rattle.std.specs.Prelude.{◌≡◌, ◌≢◌, ◌<◌, ◌+◌, ◌^◌, ◌++◌, ◌∷◌, [], ℕ, length, slice_set, Some, None, IfOk, OnOk, OnErr};
+ghost use Rattle.std.specs.Prelude.{◌≡◌, ◌≢◌, ◌<◌, ◌+◌, ◌++◌, ◌∷◌, [], ℕ, length, slice_set, Some, None, IfOk, OnErr};
 ghost use Rattle.slab.specs.Slab.{get, slab_len, HasRoomFor};
 ghost use Rattle.lineage.specs.Family.{IsAdded, path_in};
 ghost use Rattle.lineage.specs.Lineages.{node, tip_at};
 
+use super::reserve::reserve_node;
 use super::{Key, Lineage};
-use crate::node::{KeyWord, Node};
+use crate::node::{Node, OptionalKey};
 use slab::Slab;
 use std::alloc::AllocError;
 
@@ -29,29 +30,11 @@ impl<X: Drop> Lineage<X> {
     }
 }
 
-/// Reserves memory for one more node; `tips` is the number of paths. Fails if it can't, or if the
-/// paths and nodes together would then be too many for a word to count.
-pub(super) fn reserve_node<X>(nodes: &mut Slab<Node<X>>, tips: usize) -> Result<(), AllocError>
-    requires { tips < 2 ^ 63 }
-    ensures slots { nodes.new.slots ≡ nodes.old.slots }
-    ensures room { OnOk result (HasRoomFor nodes.new 1) }
-    ensures few { OnOk result (tips + slab_len nodes.old + 1 < 2 ^ 64) }
-{
-    // the number of holders must fit in a word; if it might not, this reserve is sure to fail
-    if nodes.len() >= usize::MAX - tips {
-        nodes.reserve(usize::MAX)?;
-        // for the proof: a capacity is less than 2^64, so that reserve hasn't succeeded
-        let _most = nodes.capacity();
-        unreachable!();
-    }
-    nodes.reserve(1)
-}
-
 /// Adds a node for a new item at the end of the path at index `path`: it links to the last key of
 /// that path, and its own key is then the last. Returns that key.
 pub(super) fn push_node<X>(
     nodes: &mut Slab<Node<X>>,
-    tips: &mut Vec<KeyWord>,
+    tips: &mut Vec<OptionalKey>,
     path: usize,
     item: X,
 ) -> Key
@@ -72,6 +55,6 @@ pub(super) fn push_node<X>(
         above,
         holders: 1,
     });
-    tips[path] = KeyWord::of(key);
+    tips[path] = OptionalKey::of(key);
     key
 }

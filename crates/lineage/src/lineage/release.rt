@@ -7,7 +7,7 @@ ghost use Rattle.lineage.specs.Family.{IsReleased};
 ghost use Rattle.lineage.specs.Lineages.{IsReleasing, IsSoundFamily, Stays, next_up, without_holder};
 
 use super::{Key, Lineage};
-use crate::node::{KeyWord, Node};
+use crate::node::{Node, OptionalKey};
 use slab::Slab;
 
 impl<X: Drop> Lineage<X> {
@@ -25,7 +25,7 @@ impl<X: Drop> Lineage<X> {
 
 /// Counts one holder less for the node at `tip`, since a link to it is gone. If the node has no
 /// holder left, drops it, and does the same for the node that it linked to, and so on.
-pub(super) fn free_up<X: Drop>(nodes: &mut Slab<Node<X>>, tip: KeyWord)
+pub(super) fn free_up<X: Drop>(nodes: &mut Slab<Node<X>>, tip: OptionalKey)
     requires { (tips : List (Option ℕ))
         × IsReleasing nodes.old.slots nodes.old.slots tips tip }
     ensures sound { (tips : List (Option ℕ)) → IsReleasing nodes.old.slots nodes.old.slots tips tip
@@ -40,7 +40,7 @@ pub(super) fn free_up<X: Drop>(nodes: &mut Slab<Node<X>>, tip: KeyWord)
 
 /// Takes one holder from the node at a key. If the node has no holder left, drops the node and
 /// returns the key above, whose node then has to lose a holder too. Otherwise returns no key.
-fn free_node<X: Drop>(nodes: &mut Slab<Node<X>>, key: Key) -> KeyWord
+fn free_node<X: Drop>(nodes: &mut Slab<Node<X>>, key: Key) -> OptionalKey
     requires { ContainsKey nodes.old key }
     ensures next { result ≡ next_up (get nodes.old key) }
     ensures here { get nodes.new key ≡ without_holder (get nodes.old key) }
@@ -49,7 +49,7 @@ fn free_node<X: Drop>(nodes: &mut Slab<Node<X>>, key: Key) -> KeyWord
     let node = &mut nodes[key];
     if node.holders > 1 {
         node.holders -= 1;
-        return KeyWord::none();
+        return OptionalKey::none();
     }
     let above = node.above;
     nodes.remove(key);

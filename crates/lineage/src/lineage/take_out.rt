@@ -6,7 +6,7 @@ ghost use Rattle.lineage.specs.Family.{item_at, keys_without};
 ghost use Rattle.lineage.specs.Lineages.{is_key, past, past_node, passed_on};
 
 use super::{Key, Lineage};
-use crate::node::{KeyWord, Node};
+use crate::node::{Node, OptionalKey};
 use slab::Slab;
 
 impl<X: Drop> Lineage<X> {
@@ -29,7 +29,7 @@ impl<X: Drop> Lineage<X> {
 }
 
 /// The link that replaces `at` when `key` is skipped: `above` if `at` links to `key`, else `at`.
-fn past(at: KeyWord, key: Key, above: KeyWord) -> KeyWord
+fn past(at: OptionalKey, key: Key, above: OptionalKey) -> OptionalKey
     ensures { result ≡ past key above at }
 {
     match at.get() {
@@ -40,7 +40,7 @@ fn past(at: KeyWord, key: Key, above: KeyWord) -> KeyWord
 
 /// Corrects the number of holders of the node at `above`, which a skipped node linked to: adds the
 /// skipped node's `holders`, and subtracts 1 for the skipped node itself.
-fn pass_on<X>(nodes: &mut Slab<Node<X>>, above: KeyWord, holders: usize)
+fn pass_on<X>(nodes: &mut Slab<Node<X>>, above: OptionalKey, holders: usize)
     requires there { IfSome above (λ k. ContainsKey nodes.old k) }
     requires few { (k : ℕ) (n : Node X) → above ≡ Some k → get nodes.old k ≡ Some n
         → (1 ≤ n.holders) × (n.holders - 1 + holders < 2 ^ 64) }
@@ -52,7 +52,7 @@ fn pass_on<X>(nodes: &mut Slab<Node<X>>, above: KeyWord, holders: usize)
 }
 
 /// Gives each node that links to `key` the link `above` instead.
-fn skip_in_nodes<X>(nodes: &mut Slab<Node<X>>, key: Key, above: KeyWord)
+fn skip_in_nodes<X>(nodes: &mut Slab<Node<X>>, key: Key, above: OptionalKey)
     ensures { (k : ℕ) → get nodes.new k ≡ past_node key above (get nodes.old k) }
 {
     for place in 0..nodes.capacity() {
@@ -61,7 +61,7 @@ fn skip_in_nodes<X>(nodes: &mut Slab<Node<X>>, key: Key, above: KeyWord)
 }
 
 /// If the node at `place` links to `key`, gives that node the link `above` instead.
-fn skip_at<X>(nodes: &mut Slab<Node<X>>, place: Key, key: Key, above: KeyWord)
+fn skip_at<X>(nodes: &mut Slab<Node<X>>, place: Key, key: Key, above: OptionalKey)
     ensures here { get nodes.new place ≡ past_node key above (get nodes.old place) }
     ensures others { (k : ℕ) → k ≢ place → get nodes.new k ≡ get nodes.old k }
 {
@@ -73,7 +73,7 @@ fn skip_at<X>(nodes: &mut Slab<Node<X>>, place: Key, key: Key, above: KeyWord)
 }
 
 /// Makes `above` the last key of each path whose last key is `key`.
-fn skip_in_tips(tips: &mut Vec<KeyWord>, key: Key, above: KeyWord)
+fn skip_in_tips(tips: &mut Vec<OptionalKey>, key: Key, above: OptionalKey)
     ensures { tips.new.items ≡ map (past key above) tips.old.items }
 {
     for place in 0..tips.len() {

@@ -2,7 +2,7 @@
 
 ghost use Rattle.std.specs.Prelude.{◌≡◌, ◌⊎◌, [], true};
 ghost use Rattle.safe_bit.specs.Parts.{LiesIn, part, origin};
-ghost use Rattle.register_tests.specs.Neighbours.{IsAtPoint, IsAtPointUnlessEnded};
+ghost use Rattle.register_tests.specs.Neighbours.{IsPending, IsPendingUnlessEnded};
 
 use frames::flat::FlatStack;
 use frames::register::Register;
@@ -73,7 +73,7 @@ impl<R: Register> Neighbours<R> {
         requires fits { (R.behaviour self.old.register).suits who op ≡ true }
         requires idle { stack.old ≡ [] }
         ensures register { self.new.register ≡ self.old.register }
-        ensures may_be_at { IsAtPointUnlessEnded (R.behaviour self.old.register)
+        ensures pending { IsPendingUnlessEnded (R.behaviour self.old.register)
             (R.Reaches self.old.register) who stack.new result }
     {
         let at = self.place(side);
@@ -83,10 +83,10 @@ impl<R: Register> Neighbours<R> {
     /// A pending operation on one neighbour makes its next bit action. Returns the outcome if the
     /// operation ends.
     fn go(&mut self, side: Side, who: u32, stack: &mut FlatStack) -> Option<Outcome>
-        requires { IsAtPoint (R.behaviour self.old.register) (R.Reaches self.old.register) who
+        requires { IsPending (R.behaviour self.old.register) (R.Reaches self.old.register) who
             stack.old }
         ensures register { self.new.register ≡ self.old.register }
-        ensures may_be_at { IsAtPointUnlessEnded (R.behaviour self.old.register)
+        ensures pending { IsPendingUnlessEnded (R.behaviour self.old.register)
             (R.Reaches self.old.register) who stack.new result }
     {
         let at = self.place(side);

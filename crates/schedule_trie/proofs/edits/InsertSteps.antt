@@ -21,8 +21,8 @@ use Rattle.schedule_trie.proofs.segments.Changes.{Changes, segment_at_set}
 use Rattle.schedule_trie.proofs.segments.StepSet.{segment_seen, key_within, cut_from_sound}
 use Rattle.schedule_trie.proofs.segments.CellHolders.{holds_cell, one_holder}
 use Rattle.schedule_trie.proofs.edits.Insertion.{put, with_cell_is_put, put_through, put_elsewhere, with_cell_once, with_cell_cells, sound_with_cell, branches_changed}
-use Rattle.schedule_trie.proofs.forks.Division.{Divides, lacked-divided, sound-divided, branches-divided, notes-divided}
-use Rattle.schedule_trie.proofs.forks.DivisionSteps.{divides_from}
+use Rattle.schedule_trie.proofs.segments.Division.{Divides, lacked-divided, sound-divided, branches-divided, notes-divided}
+use Rattle.schedule_trie.proofs.segments.DivisionSteps.{divides_from}
 use Rattle.schedule_trie.proofs.segments.Notes.{notes_at, notes_but, unchanged_kept}
 use Rattle.schedule_trie.proofs.segments.TouchedSegments.{end_holds_before, none_at_end}
 use Rattle.branch_terms.proofs.Lists.{cell_in_at, slice_get_some}

@@ -13,8 +13,8 @@ use Rattle.branch_terms.specs.Forest.{branch, index_of, slots_in}
 use Rattle.schedule_trie.specs.Trie.{TrieOf, SegmentOf, segment, segment_at, slots_of, line, forest, keys_in, IsParted, IsWhole, divided_branch}
 use Rattle.schedule_trie.specs.TrieFields.{segments_of, names_of, trie_of, IsWholeWithPaths}
 use Rattle.schedule_trie.specs.changes.Forks.{IsBranchForked}
-use Rattle.schedule_trie.proofs.forks.Division.{Divides, notes-divided}
-use Rattle.schedule_trie.proofs.forks.DivisionSteps.{divides_from}
+use Rattle.schedule_trie.proofs.segments.Division.{Divides, notes-divided}
+use Rattle.schedule_trie.proofs.segments.DivisionSteps.{divides_from}
 use Rattle.schedule_trie.proofs.forks.ForkCuts.{cut, cut_whole, same_branches, cut_front, cut_line}
 use Rattle.schedule_trie.proofs.forks.ForkSteps.{fork_held, is_branch_forked}
 use Rattle.schedule_trie.proofs.edits.InsertSteps.{unnoted}

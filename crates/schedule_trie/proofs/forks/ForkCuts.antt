@@ -10,7 +10,7 @@ use Rattle.schedule_trie.proofs.lists.NoRepeats.{Once-from_linked, once_before}
 use Rattle.schedule_trie.proofs.branches.Lines.{once_at}
 use Rattle.schedule_trie.proofs.detaches.Released.{line_alike}
 use Rattle.schedule_trie.proofs.edits.Pushes.{line-append}
-use Rattle.schedule_trie.proofs.forks.Division.{Divides, keys_in-divided, branches-divided, lacked-divided, sound-divided}
+use Rattle.schedule_trie.proofs.segments.Division.{Divides, keys_in-divided, branches-divided, lacked-divided, sound-divided}
 use Rattle.lineage.proofs.ForksAbove.{divided-other}
 use Rattle.schedule_trie.proofs.forks.Forks.{linked_front, has_from_take}
 

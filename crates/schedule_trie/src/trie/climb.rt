@@ -10,12 +10,12 @@ ghost use Rattle.schedule_trie.specs.Climbs.{keys_to, HasClimbedTo};
 use super::Trie;
 use crate::segment::SegKey;
 use branch_terms::slot::Slot;
-use lineage::lineage::KeyWord;
+use lineage::lineage::OptionalKey;
 
 impl<T: Drop> Trie<T> {
     /// The number of cells of the branch at `index` down to the end of its segment `last`; 0 if
     /// `last` is `None`.
-    pub(super) fn len_to(&self, index: usize, last: KeyWord) -> u32
+    pub(super) fn len_to(&self, index: usize, last: OptionalKey) -> u32
         requires { HasClimbedTo (keys_in self.now.branches index) last }
         ensures { result ≡ length (line (segment_at self.now.segments)
             (keys_to (keys_in self.now.branches index) last)) }
@@ -92,7 +92,7 @@ impl<T: Drop> Trie<T> {
     /// One step of a climb: the key `at`, the cells of its segment, and the key of the segment
     /// above, or no key if no segment is above. `None` if the climb has ended.
     #[inline(always)]
-    fn slots_up(&self, at: KeyWord) -> Option<(SegKey, &[Slot], KeyWord)>
+    fn slots_up(&self, at: OptionalKey) -> Option<(SegKey, &[Slot], OptionalKey)>
         ensures key { IfSome result (λ s. at ≡ Some s.0) }
         ensures slots { IfSome result (λ s. s.1.now ≡ slots_of (segment_at self.now.segments s.0)) }
         ensures whole { IsWhole self.now }
@@ -101,7 +101,7 @@ impl<T: Drop> Trie<T> {
         ensures end { IfNone result
             ((i : ℕ) → HasClimbedTo (keys_in self.now.branches i) at → at ≡ None) }
     {
-        match self.segments.climb(at) {
+        match self.segments.climb_step(at) {
             Some((key, segment, above)) => Some((key, segment.slots.as_slice(), above)),
             None => None,
         }

@@ -46,7 +46,7 @@ impl<T: Drop> Trie<T> {
     {
         let len = self.len_at(index);
         let copies = self.copies(alloc, index)?;
-        self.segments.replace_path(index, copies)?;
+        self.segments.exchange_path(index, copies)?;
         self.segments.lemma_invariant();
         self.made += len;
         Ok(())

@@ -26,6 +26,6 @@ fn bench_is_read_and_printed(rt: HostRuntime) -> Result<(), Fail> {
     let file = parse_bench(rt.alloc(), BENCH)?;
     assert_eq!(rt; file.limbs.as_slice().len(), 2);
     assert!(rt; is_text(&print_bench(rt.alloc(), &file), BENCH));
-    assert!(rt; BenchFile::new(file.spec, Vec::new(rt.alloc())).is_none());
+    assert!(rt; BenchFile::new(file.tower, Vec::new(rt.alloc())).is_none());
     Ok(())
 }

@@ -8,16 +8,16 @@ use Rattle.breadth_first.proofs.path.path_to.Goals as goal
 pub loop-preserved : goal.loop-preserved
 loop-preserved g c =
     let marks : List Mark = c.args.marks.now in
-    let shape = g.G.Graph.shape c.args.graph.now in
+    let graph = g.G.Graph.graph c.args.graph.now in
     let was = c.loop.invariant in
     record {
       long = ap length c.in-Ok.ensures.items ∙ (length_push c.loop.path.items (noted_mark marks c.loop.at) ∙ ap (λ n. n + 1) was.long);
-      traced = λ nodes t. subst (IsTraced shape.labels shape.move nodes marks c.args.index (noted_mark marks c.loop.at).parent (c.loop.counter + 1)) (sym c.in-Ok.ensures.items)
-          (traced_more shape.labels shape.move nodes marks t c.args.index c.loop.at c.loop.counter c.loop.path.items (noted_mark marks c.loop.at) (was.traced nodes t) c.loop-test.true refl);
+      traced = λ nodes t. subst (IsTraced graph.labels graph.move nodes marks c.args.index (noted_mark marks c.loop.at).parent (c.loop.counter + 1)) (sym c.in-Ok.ensures.items)
+          (traced_more graph.labels graph.move nodes marks t c.args.index c.loop.at c.loop.counter c.loop.path.items (noted_mark marks c.loop.at) (was.traced nodes t) c.loop-test.true refl);
     }
 
 pub returns-clause-leads : goal.returns-clause-leads
 returns-clause-leads g c nodes t start node s k =
-    let shape = g.G.Graph.shape c.args.graph.now in
-    subst (λ (path : List Mark). LeadsBy shape.labels shape.move nodes start path node) (sym c.reverse.ensures.items)
-    (traced_all shape.labels shape.move nodes c.args.marks.now t c.args.index c.loop.at c.loop.counter c.loop.path.items (c.loop.invariant.traced nodes t) (omega (arith, c.loop-test.false)) start node s k)
+    let graph = g.G.Graph.graph c.args.graph.now in
+    subst (λ (path : List Mark). LeadsBy graph.labels graph.move nodes start path node) (sym c.reverse.ensures.items)
+    (traced_all graph.labels graph.move nodes c.args.marks.now t c.args.index c.loop.at c.loop.counter c.loop.path.items (c.loop.invariant.traced nodes t) (omega (arith, c.loop-test.false)) start node s k)

@@ -12,12 +12,12 @@ use Rattle.breadth_first.proofs.reach.follow.Goals as goal
 
 pub overflow_add-depth : goal.overflow_add-depth
 overflow_add-depth g c =
-    let shape = g.G.Graph.shape c.args.graph.now in
+    let graph = g.G.Graph.graph c.args.graph.now in
     let marks = c.args.search.now.reached.marks.items in
     let s = c.requires.searching in
     let trail = s.searching.expanding.trail in
     let there : c.args.at < length marks = let within = slice_get_within s.nodes c.args.at c.args.node.now s.here in let marked = trail.marked in omega (arith, within, marked) in
-    let low = depth_low shape.labels shape.move s.nodes marks trail (c.args.at + 1) c.args.at c.args.node.now (omega arith) s.here in
+    let low = depth_low graph.labels graph.move s.nodes marks trail (c.args.at + 1) c.args.at c.args.node.now (omega arith) s.here in
     let read : c.index.result.now.depth ≡ depth_at marks c.args.at = ap (λ (m : Mark). m.depth) (get_or_read marks c.args.at c.index.result.now there c.index.ensures mark_of_start) in
     omega (arith, low, read, c.requires.room, c.ranges.most.fits)
 
@@ -28,14 +28,14 @@ index-requires g c =
 
 pub returns-in-Ok-discover-clause-followed : goal.returns-in-Ok-discover-clause-followed
 returns-in-Ok-discover-clause-followed g c nodes here searching =
-    let shape = g.G.Graph.shape c.args.graph.now in
+    let graph = g.G.Graph.graph c.args.graph.now in
     let marks = c.args.search.now.reached.marks.items in
     let s = c.requires.searching in
     let there : c.args.at < length marks =
     let within = slice_get_within s.nodes c.args.at c.args.node.now s.here in let marked = s.searching.expanding.trail.marked in omega (arith, within, marked) in
     let read : c.index.result.now.depth ≡ depth_at marks c.args.at = ap (λ (m : Mark). m.depth) (get_or_read marks c.args.at c.index.result.now there c.index.ensures mark_of_start) in
-    let moves : shape.move c.args.node.now c.args.label ≡ Some c.in-Some.arrival.node = sym c.in-Ok.ensures.node ∙ ap (option_map (λ a. a.node)) c.in-Some.is in
-    search_after shape g.G.Node.PartialEq.eq g.G.Key.PartialEq.eq (g.G.Graph.Holds c.args.graph.now)
+    let moves : graph.move c.args.node.now c.args.label ≡ Some c.in-Some.arrival.node = sym c.in-Ok.ensures.node ∙ ap (option_map (λ a. a.node)) c.in-Some.is in
+    search_after graph g.G.Node.PartialEq.eq g.G.Key.PartialEq.eq (g.G.Graph.Holds c.args.graph.now)
     nodes c.args.search.now.reached.keys.keys c.args.search.now.reached.goals.items marks c.args.search.now.queue.items c.args.at searching
     (g.met.G.Graph.same_key c.args.graph.now) g.met.G.Node.Eq.laws (g.met.G.Graph.alike c.args.graph.now)
     c.args.node.now c.in-Some.arrival.node c.args.label (c.index.result.now.depth + 1) c.args.most
@@ -46,12 +46,12 @@ returns-in-Ok-discover-clause-followed g c nodes here searching =
 
 pub returns-in-Err-clause-too_many : goal.returns-in-Err-clause-too_many
 returns-in-Err-clause-too_many g c e =
-    let shape = g.G.Graph.shape c.args.graph.now in
+    let graph = g.G.Graph.graph c.args.graph.now in
     let s = c.requires.searching in
     let why : c.in-Err.why ≡ TooMany = cc in
     let t = c.discover.ensures.too_many (c.in-Err.is ∙ ap Err why) in
-    let moves : shape.move c.args.node.now c.args.label ≡ Some c.in-Some.arrival.node = sym c.in-Ok.ensures.node ∙ ap (option_map (λ a. a.node)) c.in-Some.is in
-    too_many_discovered shape g.G.Node.PartialEq.eq g.G.Key.PartialEq.eq (g.G.Graph.Holds c.args.graph.now)
+    let moves : graph.move c.args.node.now c.args.label ≡ Some c.in-Some.arrival.node = sym c.in-Ok.ensures.node ∙ ap (option_map (λ a. a.node)) c.in-Some.is in
+    too_many_discovered graph g.G.Node.PartialEq.eq g.G.Key.PartialEq.eq (g.G.Graph.Holds c.args.graph.now)
     s.nodes c.args.search.now.reached.keys.keys c.args.search.now.reached.goals.items c.args.search.now.reached.marks.items c.args.search.now.queue.items c.args.at s.searching
     (g.met.G.Graph.same_key c.args.graph.now) g.met.G.Node.Eq.laws (g.met.G.Graph.alike c.args.graph.now)
     c.args.node.now c.in-Some.arrival.node c.args.label c.args.most
@@ -60,6 +60,6 @@ returns-in-Err-clause-too_many g c e =
 
 pub returns-in-Ok-discover-clause-again : goal.returns-in-Ok-discover-clause-again
 returns-in-Ok-discover-clause-again g c e =
-    let move = (g.G.Graph.shape c.args.graph.now).move c.args.node.now in
+    let move = (g.G.Graph.graph c.args.graph.now).move c.args.node.now in
     subst (λ r. IfSome r (λ a. a.again ≡ true → move (c.args.label + 1) ≡ Some a.node)) c.in-Some.is c.in-Ok.ensures.again e
     ∙ sym (sym c.in-Ok.ensures.node ∙ ap (option_map (λ a. a.node)) c.in-Some.is)

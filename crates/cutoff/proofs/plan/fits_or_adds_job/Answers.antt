@@ -5,7 +5,7 @@ use Rattle.frames.specs.Recorded.{AllFit}
 use Rattle.cutoff.specs.Fitting.{Fits, RunFits, bare_run, steps_at}
 use Rattle.cutoff.specs.Prefixes.{exit_or}
 use Rattle.cutoff.proofs.Prefixes.{config_linked}
-use Rattle.cutoff.proofs.Sights.{job, job_is}
+use Rattle.cutoff.proofs.FoundFits.{job, job_is}
 use Rattle.cutoff.proofs.plan.fits_or_adds_job.Goals as goal
 
 pub fitting-requires : goal.fitting-requires

@@ -3,7 +3,7 @@ use Rattle.std.proofs.lemmas.List.{length-map}
 use Rattle.schedule_trie.specs.Trie.{segment_at, branch_on, keys_in}
 use Rattle.cutoff.specs.Plans.{keys_of}
 use Rattle.cutoff.proofs.Plans.{plan_adds, plan_on, plan_ends}
-use Rattle.cutoff.proofs.Sights.{none_seen}
+use Rattle.cutoff.proofs.FoundFits.{none_seen}
 use Rattle.cutoff.proofs.plan.plan_all.Goals as goal
 
 pub plan_branch-requires-clause-seen : goal.plan_branch-requires-clause-seen

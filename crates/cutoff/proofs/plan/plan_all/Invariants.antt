@@ -1,7 +1,7 @@
 use Rattle.std.proofs.Common.{List, [], ◌∷◌, drop, map}
 use Rattle.schedule_trie.specs.Trie.{keys_in}
 use Rattle.cutoff.specs.Plans.{Planned, Plans, keys_of}
-use Rattle.cutoff.specs.Sights.{AreSeen}
+use Rattle.cutoff.specs.FoundFits.{AreSeen}
 use Rattle.cutoff.proofs.plan.plan_all.Given as goal
 
 abbrev pub invariant-loop-other : goal.invariant-loop-other

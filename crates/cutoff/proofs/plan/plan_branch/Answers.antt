@@ -1,6 +1,6 @@
 use Rattle.std.proofs.Common.{drop}
 use Rattle.std.proofs.lemmas.List.{drop_all}
-use Rattle.cutoff.proofs.Sights.{planning_starts, planning_ends, next_fits, next_unseen, next_above, planning_next}
+use Rattle.cutoff.proofs.FoundFits.{planning_starts, planning_ends, next_fits, next_unseen, next_above, planning_next}
 use Rattle.cutoff.proofs.plan.plan_branch.Goals as goal
 
 pub loop-key-init : goal.loop-key-init

@@ -1,5 +1,5 @@
 use Rattle.std.proofs.Common.{drop}
-use Rattle.cutoff.proofs.Sights.{IsPlanning}
+use Rattle.cutoff.proofs.FoundFits.{IsPlanning}
 use Rattle.cutoff.proofs.plan.plan_branch.Given as goal
 
 abbrev pub invariant-loop-key : goal.invariant-loop-key

@@ -5,9 +5,9 @@ use Rattle.schedule_trie.proofs.climbs.Climbs.{IsLast, last_is, step_up}
 use Rattle.schedule_trie.proofs.limbs.OwnParts.{climbing_first, climbing_up}
 use Rattle.cutoff.specs.Known.{IsKnownDownTo}
 use Rattle.cutoff.specs.Prefixes.{RunsToOnAll}
-use Rattle.cutoff.specs.Sights.{IsKnownAt}
+use Rattle.cutoff.specs.FoundFits.{IsKnownAt}
 use Rattle.cutoff.proofs.Climbs.{step_up_shorter}
-use Rattle.cutoff.proofs.Sights.{IsUnseen, known_at, unseen_part}
+use Rattle.cutoff.proofs.FoundFits.{IsUnseen, known_at, unseen_part}
 use Rattle.cutoff.proofs.Keys.{path_once}
 use Rattle.cutoff.proofs.plan.unseen_keys.Goals as goal
 

@@ -2,7 +2,7 @@ use Rattle.std.proofs.Common.{length}
 use Rattle.schedule_trie.specs.Trie.{keys_in}
 use Rattle.schedule_trie.specs.Climbs.{keys_to}
 use Rattle.schedule_trie.proofs.limbs.OwnParts.{IsClimbing}
-use Rattle.cutoff.proofs.Sights.{IsUnseen}
+use Rattle.cutoff.proofs.FoundFits.{IsUnseen}
 use Rattle.cutoff.proofs.plan.unseen_keys.Given as goal
 
 abbrev pub invariant-loop-at : goal.invariant-loop-at

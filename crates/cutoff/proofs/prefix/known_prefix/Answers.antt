@@ -3,7 +3,7 @@ use Rattle.std.specs.Prelude.{MatchOption}
 use Rattle.std.specs.Cmp.{IsPartialEquivalence}
 use Rattle.std.specs.Option.{option_copied}
 use Rattle.std.proofs.lemmas.List.{length-append, length-reverse}
-use Rattle.checkpoints.specs.Segment.{IsRun}
+use Rattle.checkpoints.specs.Runs.{IsTrueRun}
 use Rattle.frames.specs.Behaviour.{Behaviour}
 use Rattle.frames.specs.Configuration.{Configuration}
 use Rattle.frames.specs.Equality.{SameConfiguration}
@@ -38,7 +38,7 @@ loop-init g c = record {
 -- runs fit down to a segment that is the first of its branches if its run begins at the start
 first_down : {R P : Type 0} (E : R → R → Bool) (per : IsPartialEquivalence E) (is : R → Behaviour P) (alike : (x y : R) → E x y ≡ true → is x ≡ is y) (trie : TrieOf (StoredRun R P)) (start : Configuration R P) (known : Known)
     → AreKnown E is trie start known → (top : ℕ) (o : Option (StoredRun R P)) (above : Option ℕ) → IsTop trie top o above → above ≡ None
-    → MatchOption o ⊥ (λ s. SameConfiguration E s.run.entry start × IsRun (is s.run.entry.register) s.run) → RunsToOnAll E is trie start (Some top)
+    → MatchOption o ⊥ (λ s. SameConfiguration E s.run.entry start × IsTrueRun (is s.run.entry.register) s.run) → RunsToOnAll E is trie start (Some top)
 first_down E per is alike trie start known all_known top None above t none m = absurd m
 first_down E per is alike trie start known all_known top (Some s) above t none m = λ i h.
     let keys = keys_in trie.branches i in

@@ -3,7 +3,7 @@ use Rattle.std.proofs.lemmas.List.{length-map}
 use Rattle.std.specs.Arc.{arc_value}
 use Rattle.frames.specs.Recorded.{without_register}
 use Rattle.schedule_trie.specs.Forest.{step_of}
-use Rattle.checkpoints.specs.Segment.{IsRun}
+use Rattle.checkpoints.specs.Runs.{IsTrueRun}
 use Rattle.schedule_trie.specs.Trie.{segment_at, slots_of, IsNoted}
 use Rattle.schedule_trie.proofs.Results.{always_on_err}
 use Rattle.cutoff.specs.Fitting.{steps_at}
@@ -30,7 +30,7 @@ returns-clause-settled g c =
           (ap (λ r. r.steps) made ∙ c.in_ok-made.ensures.steps ∙ ap (map step_of) c.segment_cells-cells.ensures) (ap (λ r. r.entry) made ∙ c.in_ok-made.ensures.entry)
           c.requires.misses (length c.segment_cells-cells.result.now)
           (ap length c.segment_cells-cells.ensures ∙ sym (length-map (slots_of (segment_at c.args.trie.now.segments c.args.key)) step_of)),
-      subst (λ r. IsRun (g.R.Behaves.behaviour r.entry.register) r) (sym made) c.steps-steps.ensures.kept,
+      subst (λ r. IsTrueRun (g.R.Behaves.behaviour r.entry.register) r) (sym made) c.steps-steps.ensures.kept,
     )
 
 pub returns-clause-linked : goal.returns-clause-linked

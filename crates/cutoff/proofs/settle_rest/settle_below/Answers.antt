@@ -1,7 +1,7 @@
 use Rattle.std.proofs.Common.{None, refl, sym, subst, ◌∙◌}
 use Rattle.std.specs.Arc.{arc_value}
 use Rattle.frames.specs.Recorded.{AllFit, without_register}
-use Rattle.checkpoints.specs.Segment.{IsRun}
+use Rattle.checkpoints.specs.Runs.{IsTrueRun}
 use Rattle.schedule_trie.proofs.Results.{always_on_err}
 use Rattle.cutoff.specs.Fitting.{Fits, steps_at}
 use Rattle.cutoff.proofs.Links.{linked_none, linked_equal}
@@ -34,7 +34,7 @@ returns-in-Some-clause-settled g c =
     let again = c.in_ok-again.again in
     let settled = segment_taken g.R.PartialEq.eq trie c.set_note.new.self _ c.args.key again c.set_note.ensures s c.in-Some.ensures.0 _
     c.entry_below-number.ensures.entry c.in-Some.ensures.1 c.in_ok-again.ensures.run in
-    rw c.in_ok-copy-2.ensures (settled, subst (λ r. IsRun (g.R.Behaves.behaviour r.entry.register) r) (sym c.in_ok-again.ensures.run) c.in-Some.ensures.2)
+    rw c.in_ok-copy-2.ensures (settled, subst (λ r. IsTrueRun (g.R.Behaves.behaviour r.entry.register) r) (sym c.in_ok-again.ensures.run) c.in-Some.ensures.2)
 
 pub returns-in-Some-clause-linked : goal.returns-in-Some-clause-linked
 returns-in-Some-clause-linked g c =

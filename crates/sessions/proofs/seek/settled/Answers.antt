@@ -1,6 +1,6 @@
 use Rattle.std.proofs.Common.{◌∙◌, refl, subst, inl}
 use Rattle.schedule_trie.specs.Trie.{forest}
-use Rattle.cutoff.specs.Settles.{KeepsOrFills}
+use Rattle.cutoff.specs.Settles.{KeepsOrSettles}
 use Rattle.views.proofs.Spots.{len_is_step_count}
 use Rattle.sessions.proofs.Runs.{runs_report}
 use Rattle.sessions.proofs.seek.settled.Goals as goal
@@ -17,12 +17,12 @@ returns-in-Ok-clause-counts g c =
 
 pub returns-in-Ok-clause-keeps : goal.returns-in-Ok-clause-keeps
 returns-in-Ok-clause-keeps g c =
-    subst (KeepsOrFills g.R.PartialEq.eq g.R.Behaves.behaviour c.args.chart.now c.settle.new.self c.args.branch.now)
+    subst (KeepsOrSettles g.R.PartialEq.eq g.R.Behaves.behaviour c.args.chart.now c.settle.new.self c.args.branch.now)
     (len_is_step_count (forest c.args.chart.now.trie) c.args.branch.now c.in-Some.len c.in-Some.ensures) c.in-Ok.ensures.keeps
 
 pub returns-in-Err-clause-keeps : goal.returns-in-Err-clause-keeps
 returns-in-Err-clause-keeps g c =
-    subst (KeepsOrFills g.R.PartialEq.eq g.R.Behaves.behaviour c.args.chart.now c.settle.new.self c.args.branch.now)
+    subst (KeepsOrSettles g.R.PartialEq.eq g.R.Behaves.behaviour c.args.chart.now c.settle.new.self c.args.branch.now)
     (len_is_step_count (forest c.args.chart.now.trie) c.args.branch.now c.in-Some.len c.in-Some.ensures) c.in-Err.ensures.keeps
 
 pub returns-in_default-clause-keeps : goal.returns-in_default-clause-keeps

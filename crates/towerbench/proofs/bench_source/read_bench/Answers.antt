@@ -8,4 +8,4 @@ use Rattle.towerbench.proofs.bench_source.read_bench.Goals as goal
 pub one_branch-requires-clause-fit : goal.one_branch-requires-clause-fit
 one_branch-requires-clause-fit c =
     let f = c.in_ok-file.file in
-    steps_fit f.version f.spec f.steps (and_parts (is_lawful_tower f.spec) (list_all (may_have f.version f.spec) f.steps) f.lawful).1
+    steps_fit f.version f.tower f.steps (and_parts (is_lawful_tower f.tower) (list_all (may_have f.version f.tower) f.steps) f.lawful).1

@@ -29,7 +29,7 @@ returns-in-Ok-reported_bytes g c =
     let o = c.args.opening in
     let opened = c.in-Ok.ensures in
     let can : CanOpen is o = record { value = c.requires.value; limits = c.requires.limits; builds = c.requires.builds } in
-    let left = bench_of o.setup.bench.spec (limbs (world_at is c.serve_at.new.seat).forest) in (
+    let left = bench_of o.setup.bench.tower (limbs (world_at is c.serve_at.new.seat).forest) in (
       left,
       left_at is o can (world_at is c.in-Ok.seat) opened.opens _ _ opened.room (world_at is c.serve_at.new.seat) (c.in-Ok-serve_at.ensures.done opened.alone) left refl,
       c.in-Ok-reported_bytes.ensures.reported,

@@ -1,6 +1,6 @@
 use Rattle.std.proofs.Common.{◌≡◌, ◌++◌, ◌∙◌, suc, ◌+◌, ap, sym, subst, map, take, arith}
 use Rattle.std.specs.Arc.{arc_value}
-use Rattle.checkpoints.specs.Segment.{IsRun}
+use Rattle.checkpoints.specs.Runs.{IsTrueRun}
 use Rattle.cutoff.specs.Fitting.{part_of}
 use Rattle.views.specs.Spots.{parts_events}
 use Rattle.views.proofs.IndexedEvents.{indexed_more}
@@ -15,7 +15,7 @@ loop-run-preserved g c =
     let item = c.loop-run-item.result in
     let run = arc_value item.0 in
     let before = parts_events is (map part_of (take i runs)) in
-    let kept : IsRun (is run.entry.register) run = subst (λ r. IsRun (is r.entry.register) r) c.deref.ensures c.events.ensures.kept in
+    let kept : IsTrueRun (is run.entry.register) run = subst (λ r. IsTrueRun (is r.entry.register) r) c.deref.ensures c.events.ensures.kept in
     let walked : c.front-walk.result ≡ take item.1 run.events = c.front-walk.ensures ∙ ap (take item.1) (c.events.ensures.events ∙ ap (λ r. r.events) c.deref.ensures) in
     let next : i + 1 ≡ suc i = omega arith in
     let both : parts_events is (map part_of (take (i + 1) runs)) ≡ before ++ c.front-walk.result =

@@ -1,5 +1,5 @@
 use Rattle.std.proofs.Common.{ap, ◌∙◌}
-use Rattle.words.specs.Words.{number}
+use Rattle.words.specs.Numbers.{number}
 use Rattle.words.proofs.Numbers.{decimal-number, number-decimal}
 use Rattle.words.proofs.laws.one_spelling_of_number.Goals as goal
 

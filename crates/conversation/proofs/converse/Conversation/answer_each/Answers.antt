@@ -88,9 +88,9 @@ returns-clause-reported g c = λ alone.
     c.keep.ensures.line
 
 -- what holds in any case holds if this result is `Ok`
-always : (r : Result ⊤ AllocError) (P : Type 0) → P → OnOk r P
-always (Ok done) P p = p
-always (Err e) P p = tt
+always_on_ok : (r : Result ⊤ AllocError) (P : Type 0) → P → OnOk r P
+always_on_ok (Ok done) P p = p
+always_on_ok (Err e) P p = tt
 
 pub returns-clause-alone : goal.returns-clause-alone
-returns-clause-alone g c = λ alone. always c.keep.result _ (c.lines.invariant.reported alone).0
+returns-clause-alone g c = λ alone. always_on_ok c.keep.result _ (c.lines.invariant.reported alone).0

@@ -22,7 +22,7 @@ invariant_of-self-2 g c =
     let nodes = c.len.ensures in
     forked_sound a.nodes.slots c.hold.new.nodes.slots a.tips.items c.push_reserved.new.self.items c.args.key c.self.invariant
     (subst (λ f. IfSome c.args.key (λ k. IsSome (item_at f k))) (sym c.self.view_is) c.requires) c.hold.ensures.nodes
-    (c.push_reserved.ensures.items ∙ ap (λ e. c.reserve_tip.new.tips.items ++ e ∷ []) c.key_word.ensures ∙ ap (λ xs. xs ++ c.args.key ∷ []) c.in_ok-reserve_tip.ensures.items)
+    (c.push_reserved.ensures.items ∙ ap (λ e. c.reserve_tip.new.tips.items ++ e ∷ []) c.optional_key.ensures ∙ ap (λ xs. xs ++ c.args.key ∷ []) c.in_ok-reserve_tip.ensures.items)
     c.hold.ensures.len (omega (arith, few, nodes))
 
 pub returns-clause-ok : goal.returns-clause-ok
@@ -30,4 +30,4 @@ returns-clause-ok g c =
     let a = c.self.inside in
     rw (← c.self.view_is) (forked a.nodes.slots c.hold.new.nodes.slots a.tips.items c.push_reserved.new.self.items c.args.key c.self.invariant
     (subst (λ f. IfSome c.args.key (λ k. IsSome (item_at f k))) (sym c.self.view_is) c.requires) c.hold.ensures.nodes
-    (c.push_reserved.ensures.items ∙ ap (λ e. c.reserve_tip.new.tips.items ++ e ∷ []) c.key_word.ensures ∙ ap (λ xs. xs ++ c.args.key ∷ []) c.in_ok-reserve_tip.ensures.items) c.hold.ensures.slots)
+    (c.push_reserved.ensures.items ∙ ap (λ e. c.reserve_tip.new.tips.items ++ e ∷ []) c.optional_key.ensures ∙ ap (λ xs. xs ++ c.args.key ∷ []) c.in_ok-reserve_tip.ensures.items) c.hold.ensures.slots)

@@ -7,7 +7,7 @@ use Rattle.branch_terms.specs.Forest.{index_of}
 use Rattle.schedule_trie.specs.Trie.{forest, keys_in, line, segment_at, slots_of, has}
 use Rattle.schedule_trie.specs.changes.Forks.{IsBranchForked}
 use Rattle.schedule_trie.specs.TrieFields.{trie_of, IsWholeWithPaths}
-use Rattle.schedule_trie.proofs.forks.DivisionSteps.{still_there}
+use Rattle.schedule_trie.proofs.segments.DivisionSteps.{still_there}
 use Rattle.schedule_trie.proofs.forks.ForkCutSteps.{cut_fork}
 use Rattle.schedule_trie.proofs.lists.KeyPositions.{parting}
 use Rattle.schedule_trie.proofs.segments.StepSet.{held_there, reserved_kept, reserved_err}

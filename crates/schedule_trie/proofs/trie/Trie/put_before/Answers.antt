@@ -5,7 +5,7 @@ use Rattle.lineage.specs.Family.{with_item, IsAdded}
 use Rattle.schedule_trie.proofs.edits.InsertSteps.{divided}
 use Rattle.schedule_trie.proofs.lengths.Lengths.{relength_seen}
 use Rattle.schedule_trie.proofs.lengths.LengthSteps.{none_cached_kept}
-use Rattle.schedule_trie.proofs.forks.DivisionSteps.{still_there}
+use Rattle.schedule_trie.proofs.segments.DivisionSteps.{still_there}
 use Rattle.schedule_trie.proofs.segments.StepSet.{held_there}
 use Rattle.schedule_trie.proofs.trie.Trie.put_before.Given.{Over}
 use Rattle.schedule_trie.proofs.trie.Trie.put_before.Goals as goal
