@@ -13,7 +13,7 @@ import { here, now } from "./state.js";
 const field = (name) => one(`#share-${name}`), valueOf = (name) => field(name).value.trim();
 const GOAL = /^(?:# ?)?goal(?: [0-9]+)?: (.*)$/;
 const DATA = /^(?:# ?)?(?:goal|ask|option)(?: [0-9]{1,3})?: ./;
-const isAsked = (it) => /^# (goal|ask|option)\b/.test(it);
+const isQuestionData = (it) => /^# (goal|ask|option)\b/.test(it);
 const typedLines = (text) => text.split("\n").map((it) => it.trim()).filter(Boolean);
 // the address of the page on the web, which is typed once
 function baseAddress() {
@@ -30,18 +30,18 @@ function pageWith(document, base) {
 function scriptWith({ text, data, name }, lines, isBare) {
   const head = headOf(lines), begin = lines.slice(0, head), rest = lines.slice(head);
   const kept = (kind) => begin.filter((it) => it.startsWith(`# ${kind}`));
-  const asked = typedLines(text).map((it) => `# ${it}`);
-  const goals = typedLines(data).map((it) => `# ${it.replace(/^# ?/, "")}`);
+  const textLines = typedLines(text).map((it) => `# ${it}`);
+  const dataLines = typedLines(data).map((it) => `# ${it.replace(/^# ?/, "")}`);
   const whose = name ? [`# student: ${name}`] : [];
   const answered = isBare ? [] : [...kept("start:"), ...kept("predicted"), ...whose];
   const done = isBare ? ["0 join"] : rest.filter((it) => !isData(it));
-  return `${[...kept("exercise"), ...asked, ...goals, ...answered, ...done].join("\n")}\n`;
+  return `${[...kept("exercise"), ...textLines, ...dataLines, ...answered, ...done].join("\n")}\n`;
 }
 const fields = () => ({ text: valueOf("text"), data: valueOf("data"), name: valueOf("name") });
-const isBare = () => one("[name=share-start]:checked").value === "bare";
+const isBareChosen = () => one("[name=share-start]:checked").value === "bare";
 function sharedDocument() {
   const { tower, lines } = now.document;
-  return { tower, script: scriptWith(fields(), lines, isBare()) };
+  return { tower, script: scriptWith(fields(), lines, isBareChosen()) };
 }
 // goals that the cursor's branch meets, each of which a click adds
 async function suggestedGoals(model, name) {
@@ -123,7 +123,7 @@ function ideaButton(it) {
 }
 export async function openShare(take) {
   const dialog = one("#share-dialog"), { lines } = now.document, found = taskOf(lines);
-  const data = lines.filter(isAsked).map((it) => it.slice(2)).join("\n");
+  const data = lines.filter(isQuestionData).map((it) => it.slice(2)).join("\n");
   const name = found.student || remembered("student"), isDraft = draft?.key === draftKey();
   const typed = isDraft ? draft : { text: found.text.join("\n"), data, name };
   for (const it of ["text", "data", "name"]) field(it).value = typed[it];

@@ -62,12 +62,12 @@ function storyOfStamped(facts, root) {
   if (found === null)
     return { parts, rows: [{ name: "register", place }], words: `${words}, so far.` };
   const before = facts.best(register, root.from), after = facts.best(register, root.to + 1);
-  const isFound = after === found, rows = [{ name: "register", place },
-    isFound ? { name: remembers, place: place + 1 } : { name: remembers, place, code: after }];
-  const named = { parts, rows, source: isFound ? scan : null };
+  const givesFound = after === found, rows = [{ name: "register", place },
+    givesFound ? { name: remembers, place: place + 1 } : { name: remembers, place, code: after }];
+  const named = { parts, rows, source: givesFound ? scan : null };
   const code = (it) => `code ${it} = ${codeWords(codes, it).long}`, who = `p${root.process}`;
   const first = `${words}: so it found ${code(found)}.`;
-  if (!isFound)
+  if (!givesFound)
     return { ...named, words: `${first} But ${who} remembered ${code(after)}, which is greater, `
       + `and gives that one's value, ${codes.parts(after).value}.` };
   return { ...named, words: `${first} ${who} ${before === found ? "remembered that code already"

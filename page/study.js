@@ -109,7 +109,7 @@ async function putFigures(article, put) {
   if (figures.every((it) => it.isConnected)) article.dataset.drawn = "";
 }
 // shows a lesson; `begin` makes a document of a tower file, a script and a lesson's lines
-export function putStudy(folder, begin, { isAnswered = false, ask } = {}) {
+export function putStudy(folder, begin, { showsAnswers = false, ask } = {}) {
   const lessons = allLessons(), lesson = lessons.find((it) => it.folder === folder);
   if (!lesson) return;
   studied = folder;
@@ -136,7 +136,7 @@ export function putStudy(folder, begin, { isAnswered = false, ask } = {}) {
     askForSecond(second);
   };
   putFigures(article, (it) => putFigure(it, lesson, enter, enterBoth));
-  if (!isAnswered || !answers) return;
+  if (!showsAnswers || !answers) return;
   answers.open = true;
   answers.scrollIntoView({ block: "start" });
 }

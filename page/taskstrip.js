@@ -83,7 +83,7 @@ function buttons({ of, isDone }, gestures) {
     next && button(`Next: ${next.title} \u25b6`, begin, big),
     isDone && of && !next && button("Next lesson \u25b6", goOn, big),
     button("Start again", gestures.again, { "data-again": "" }),
-    of && button("Answer", () => gestures.study(folder, { isAnswered: true }),
+    of && button("Answer", () => gestures.study(folder, { showsAnswers: true }),
       { "data-answer": "" }),
     of && button("\u25c0 Lesson", () => gestures.study(folder), { "data-lesson": "" }),
     button("\u25b4", null, { "data-fold": "task", class: "fold-it", "aria-label": "the text" })];

@@ -94,7 +94,7 @@ def blocks(text, place):
 
 
 def article(folder):
-    """Returns a lesson's page as HTML; a time line stays in a figure that the page draws."""
+    """Returns a lesson's text as HTML, with each time line as text in a figure."""
     text, figures = with_towers(text_of(f"lessons/{folder}/README.md")), []
 
     def hold(match):

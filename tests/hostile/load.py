@@ -309,14 +309,16 @@ def sixteen_sessions(counts, scratch):
     ends = edits(
         "0 insert main 0 w 0 1", f"0 insert main {tail} g 1 0", f"0 insert main {tail + 1} g 1 0"
     )
-    first, *others = [(f"{it} seek", answer_to_move(it, forth)) for it, _, forth, _ in sessions]
+    first, *others = [
+        (f"{it} seek", answer_to_move(it, met_forth)) for it, _, met_forth, _ in sessions
+    ]
     back, at, again = [], [], []
-    for session, sought, _, after in sessions:
+    for session, sought, _, met_back in sessions:
         back += [
             (f"{session} go main {end}", f"{session}: at main {end}"),
-            (f"{session} back", answer_to_move(session, after)),
+            (f"{session} back", answer_to_move(session, met_back)),
         ]
-        at.append(cursor(session, 1 + (end if after is None else after), sought))
+        at.append(cursor(session, 1 + (end if met_back is None else met_back), sought))
         again.append(
             (f"{session} seek", answer_to_move(session, end + 1 if sought == "bit 0 0" else None))
         )

@@ -36,7 +36,7 @@ ANSWERS = ("Answers", "Invariants", "Proof")
 TOKEN = re.compile(r"[^\s(){}\[\],;:.⟦⟧@`\"]+")
 # Facts of specs/ that nothing names, but that a tactic may use: whether proofs need them wasn't
 # tried.
-UNSEEN = (
+PERHAPS_UNUSED = (
     "LiesIn-part",
     "asked_holds",
     "copies_fit",
@@ -102,7 +102,7 @@ def unused(files):
     for path, lines in sorted(code.items()):
         names = names_of(path, lines)
         own = own_uses(files[path]) if names else {}
-        found += [(path, it) for it in names if uses[it] <= own[it] and it not in UNSEEN]
+        found += [(path, it) for it in names if uses[it] <= own[it] and it not in PERHAPS_UNUSED]
     return found
 
 

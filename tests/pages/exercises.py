@@ -41,7 +41,7 @@ def replace(page, branch, place, step):
     page.click("#menu form button")
 
 
-def do(page, command):
+def carry_out(page, command):
     """Does by clicks what a line of a script does; a look needs none, as the page shows it
     anyway."""
     name, *words = command.split(" ")
@@ -103,7 +103,7 @@ def solve(page, folder, begin):
     expect(not goals or "false" in goals, f"{begin} is solved at its start")
     for command in commands(f"lessons/{folder}/{name}.script") if goals else []:
         # A break stops before what the script does next
-        do(page, command)
+        carry_out(page, command)
         if page.value(f"Boolean({DONE})"):
             break
     expect(page.value(f"Boolean({DONE})"), f"{begin} isn't solved: {page.value(MET)}")

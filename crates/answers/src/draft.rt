@@ -5,7 +5,7 @@ ghost use Rattle.frames.specs.Configuration.{fits_step};
 ghost use Rattle.answers.specs.States as spec;
 ghost use Rattle.answers.specs.States.{IsStateOfRun, advanced};
 
-use crate::moves::{Moves, is_enabled, step_by};
+use crate::moves::{Moves, is_enabled, kind_of, step_by};
 use crate::state::State;
 use frames::config::Config;
 use frames::register::Register;
@@ -193,16 +193,6 @@ pub(crate) fn step_after<'q, R: Register>(
         Some(step)
     } else {
         None
-    }
-}
-
-/// The kind of a step: 0 and 1 are bit actions with that choice, 2 is an invocation, and 3 a stop.
-fn kind_of(step: Step) -> usize {
-    match step {
-        Step::Go { c: 0, .. } => 0,
-        Step::Go { .. } => 1,
-        Step::Write { .. } | Step::Read { .. } => 2,
-        Step::Stop { .. } => 3,
     }
 }
 

@@ -187,6 +187,17 @@ pub(crate) fn step_by(
     }
 }
 
+/// The kind of a step, as `step_by` has it: 0 and 1 are bit actions with that choice, 2 is an
+/// invocation, and 3 a stop.
+pub(crate) fn kind_of(step: Step) -> usize {
+    match step {
+        Step::Go { c: 0, .. } => 0,
+        Step::Go { .. } => 1,
+        Step::Write { .. } | Step::Read { .. } => 2,
+        Step::Stop { .. } => 3,
+    }
+}
+
 /// Whether the step is enabled: its process hasn't stopped, and is idle if the step is an
 /// invocation, or has an operation pending if it is a bit action.
 pub(crate) fn is_enabled<R: Register>(config: &Config<R>, step: Step) -> bool

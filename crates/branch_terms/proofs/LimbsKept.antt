@@ -150,12 +150,12 @@ module _ (earlier : List Branch) (b : Branch) (agree : (j : ℕ) → j < length 
   new = slots_on g l
 
   -- the branches of the first side, with b
-  abbrev before : List Branch
-  before = earlier ++ b ∷ []
+  abbrev first_side : List Branch
+  first_side = earlier ++ b ∷ []
 
   -- the branches of the second side, with the limb's branch
-  abbrev after : List Branch
-  after = g.branches ++ branch b.name new ∷ []
+  abbrev second_side : List Branch
+  second_side = g.branches ++ branch b.name new ∷ []
 
   -- the cells of the branch of g from which the limb's branch starts
   abbrev origin : List Slot
@@ -186,44 +186,44 @@ module _ (earlier : List Branch) (b : Branch) (agree : (j : ℕ) → j < length 
       ∙ sym (map-append step_of (take l.shared origin) (numbered g.made l.steps))
 
   -- the names stay equal on both sides
-  names_more : map name_of before ≡ map name_of after
+  names_more : map name_of first_side ≡ map name_of second_side
   names_more =
       map-append name_of earlier (b ∷ []) ∙ ap (λ ns. ns ++ b.name ∷ []) kept.names ∙ sym (map-append name_of g.branches (branch b.name new ∷ []))
 
   -- on both sides the earlier branches are unchanged, the last is b or the limb's branch, and none
   -- follows
-  before_front : (i : ℕ) → i < length earlier → slots_in before i ≡ slots_in earlier i
-  before_front i less = slots_in-front earlier b i less
+  first_side_front : (i : ℕ) → i < length earlier → slots_in first_side i ≡ slots_in earlier i
+  first_side_front i less = slots_in-front earlier b i less
 
-  after_front : (i : ℕ) → i < length earlier → slots_in after i ≡ slots_in g.branches i
-  after_front i less = slots_in-front g.branches (branch b.name new) i (omega (arith, count))
+  second_side_front : (i : ℕ) → i < length earlier → slots_in second_side i ≡ slots_in g.branches i
+  second_side_front i less = slots_in-front g.branches (branch b.name new) i (omega (arith, count))
 
-  before_last : (i : ℕ) → i ≡ length earlier → slots_in before i ≡ b.slots
-  before_last i e = ap (slots_in before) e ∙ slots_in-last earlier b
+  first_side_last : (i : ℕ) → i ≡ length earlier → slots_in first_side i ≡ b.slots
+  first_side_last i e = ap (slots_in first_side) e ∙ slots_in-last earlier b
 
-  after_last : (i : ℕ) → i ≡ length earlier → slots_in after i ≡ new
-  after_last i e = ap (slots_in after) (e ∙ count) ∙ slots_in-last g.branches (branch b.name new)
+  second_side_last : (i : ℕ) → i ≡ length earlier → slots_in second_side i ≡ new
+  second_side_last i e = ap (slots_in second_side) (e ∙ count) ∙ slots_in-last g.branches (branch b.name new)
 
-  before_past : (i : ℕ) → length earlier < i → slots_in before i ≡ []
-  before_past i more = slots_in-past before i (omega (arith, length-append earlier (b ∷ [])))
+  first_side_past : (i : ℕ) → length earlier < i → slots_in first_side i ≡ []
+  first_side_past i more = slots_in-past first_side i (omega (arith, length-append earlier (b ∷ [])))
 
-  after_past : (i : ℕ) → length earlier < i → slots_in after i ≡ []
-  after_past i more = slots_in-past after i (omega (arith, count, length-append g.branches (branch b.name new ∷ [])))
+  second_side_past : (i : ℕ) → length earlier < i → slots_in second_side i ≡ []
+  second_side_past i more = slots_in-past second_side i (omega (arith, count, length-append g.branches (branch b.name new ∷ [])))
 
   -- each branch has the same steps on both sides
-  steps_more : (i : ℕ) → map step_of (slots_in before i) ≡ map step_of (slots_in after i)
+  steps_more : (i : ℕ) → map step_of (slots_in first_side i) ≡ map step_of (slots_in second_side i)
   steps_more i =
-      by_order i (length earlier) (map step_of (slots_in before i) ≡ map step_of (slots_in after i))
-      (λ less. ap (map step_of) (before_front i less) ∙ kept.steps i ∙ ap (map step_of) (sym (after_front i less)))
-      (λ e. ap (map step_of) (before_last i e) ∙ steps_new ∙ ap (map step_of) (sym (after_last i e)))
-      (λ more. ap (map step_of) (before_past i more ∙ sym (after_past i more)))
+      by_order i (length earlier) (map step_of (slots_in first_side i) ≡ map step_of (slots_in second_side i))
+      (λ less. ap (map step_of) (first_side_front i less) ∙ kept.steps i ∙ ap (map step_of) (sym (second_side_front i less)))
+      (λ e. ap (map step_of) (first_side_last i e) ∙ steps_new ∙ ap (map step_of) (sym (second_side_last i e)))
+      (λ more. ap (map step_of) (first_side_past i more ∙ sym (second_side_past i more)))
 
   -- place k of branch i has an old cell: on both sides the one at place k of the earlier branch j
   record IsOld (i k : ℕ) : Type 0 where
     j : ℕ
     within : k < length (slots_in earlier j)
-    left : cell_in (slots_in before i) k ≡ cell_in (slots_in earlier j) k
-    right : cell_in (slots_in after i) k ≡ cell_in (slots_in g.branches j) k
+    left : cell_in (slots_in first_side i) k ≡ cell_in (slots_in earlier j) k
+    right : cell_in (slots_in second_side i) k ≡ cell_in (slots_in g.branches j) k
 
   -- place k of branch i has one of the last branch's own cells, the one at index d of these: on the
   -- first side the cell of b, on the second a new cell of g
@@ -231,16 +231,16 @@ module _ (earlier : List Branch) (b : Branch) (agree : (j : ℕ) → j < length 
     d : ℕ
     place : k ≡ l.shared + d
     within : k < length b.slots
-    left : cell_in (slots_in before i) k ≡ cell_in b.slots k
-    right : cell_in (slots_in after i) k ≡ g.made + d
+    left : cell_in (slots_in first_side i) k ≡ cell_in b.slots k
+    right : cell_in (slots_in second_side i) k ≡ g.made + d
 
   -- each place of an earlier branch has an old cell
-  old_front : (i k : ℕ) → i < length earlier → k < length (slots_in before i) → IsOld i k
+  old_front : (i k : ℕ) → i < length earlier → k < length (slots_in first_side i) → IsOld i k
   old_front i k less within = record {
     j = i;
-    within = subst (λ xs. k < length xs) (before_front i less) within;
-    left = ap (λ xs. cell_in xs k) (before_front i less);
-    right = ap (λ xs. cell_in xs k) (after_front i less);
+    within = subst (λ xs. k < length xs) (first_side_front i less) within;
+    left = ap (λ xs. cell_in xs k) (first_side_front i less);
+    right = ap (λ xs. cell_in xs k) (second_side_front i less);
   }
 
   -- each shared place of the last branch has an old cell
@@ -254,9 +254,9 @@ module _ (earlier : List Branch) (b : Branch) (agree : (j : ℕ) → j < length 
         j = l.from;
         within = omega arith;
         left =
-            ap (λ xs. cell_in xs k) (before_last i e) ∙ front_cell ∙ ap (λ xs. cell_in xs k) (front_is earlier b agree)
+            ap (λ xs. cell_in xs k) (first_side_last i e) ∙ front_cell ∙ ap (λ xs. cell_in xs k) (front_is earlier b agree)
             ∙ sym (cell_in-first (slots_in earlier l.from) l.shared k less);
-        right = ap (λ xs. cell_in xs k) (after_last i e) ∙ cell_in-taken origin (numbered g.made l.steps) l.shared k less long;
+        right = ap (λ xs. cell_in xs k) (second_side_last i e) ∙ cell_in-taken origin (numbered g.made l.steps) l.shared k less long;
       }
 
   -- each later place of the last branch has one of its own cells
@@ -269,65 +269,65 @@ module _ (earlier : List Branch) (b : Branch) (agree : (j : ℕ) → j < length 
         d = d;
         place = place;
         within = inside;
-        left = ap (λ xs. cell_in xs k) (before_last i e);
-        right = ap (λ xs. cell_in xs k) (after_last i e) ∙ cell_in-new origin l.shared g.made d k l.steps enough (omega arith) place;
+        left = ap (λ xs. cell_in xs k) (first_side_last i e);
+        right = ap (λ xs. cell_in xs k) (second_side_last i e) ∙ cell_in-new origin l.shared g.made d k l.steps enough (omega arith) place;
       }
 
   -- each place of the last branch has an old cell or one of its own
-  last_place : (i k : ℕ) (P : Type 0) → i ≡ length earlier → k < length (slots_in before i) → (IsOld i k → P) → (IsOwn i k → P) → P
+  last_place : (i k : ℕ) (P : Type 0) → i ≡ length earlier → k < length (slots_in first_side i) → (IsOld i k → P) → (IsOwn i k → P) → P
   last_place i k P e within old own = by (nat_lt k l.shared) refl
     where
       by : (x : Bool) → nat_lt k l.shared ≡ x → P
       by true f = old (old_last i k e (grind (arith, nat_tests)))
       by false f =
           let more : l.shared ≤ k = grind (arith, nat_tests) in
-          own (own_last i k (k - l.shared) e (omega arith) (subst (λ xs. k < length xs) (before_last i e) within))
+          own (own_last i k (k - l.shared) e (omega arith) (subst (λ xs. k < length xs) (first_side_last i e) within))
 
   -- each place of each branch has an old cell or one of the own cells of the last branch
-  places : (i k : ℕ) (P : Type 0) → k < length (slots_in before i) → (IsOld i k → P) → (IsOwn i k → P) → P
+  places : (i k : ℕ) (P : Type 0) → k < length (slots_in first_side i) → (IsOld i k → P) → (IsOwn i k → P) → P
   places i k P within old own =
       by_order i (length earlier) P
       (λ less. old (old_front i k less within))
       (λ e. last_place i k P e within old own)
-      (λ more. let none : length (slots_in before i) ≡ 0 = ap length (before_past i more) in absurd (omega arith))
+      (λ more. let none : length (slots_in first_side i) ≡ 0 = ap length (first_side_past i more) in absurd (omega arith))
 
   -- on the second side, the number of an old cell is below the number of cells made
-  old_below : (i k : ℕ) → IsOld i k → cell_in (slots_in after i) k < g.made
+  old_below : (i k : ℕ) → IsOld i k → cell_in (slots_in second_side i) k < g.made
   old_below i k p =
       let xs = slots_in g.branches p.j in
       subst (λ x. x < g.made) (sym p.right) (built.given p.j (cell_in xs k) (cell_in-has xs k (omega (arith, p.within, lengths p.j))))
 
   -- two places with old cells have the same cell on one side exactly if they do on the other
-  cells_old : (i k j m : ℕ) → IsOld i k → IsOld j m → is_one_cell before i k j m ≡ is_one_cell after i k j m
+  cells_old : (i k j m : ℕ) → IsOld i k → IsOld j m → is_one_cell first_side i k j m ≡ is_one_cell second_side i k j m
   cells_old i k j m p q = (λ z. nat_eq (p.left z) (q.left z)) ∙ kept.cells p.j k q.j m p.within q.within ∙ sym (λ z. nat_eq (p.right z) (q.right z))
 
   -- on neither side does a place with one of the last branch's own cells have the same cell as a
   -- place with an old cell
-  cells_apart : (i k j m : ℕ) → IsOwn i k → IsOld j m → is_one_cell before i k j m ≡ is_one_cell after i k j m
+  cells_apart : (i k j m : ℕ) → IsOwn i k → IsOld j m → is_one_cell first_side i k j m ≡ is_one_cell second_side i k j m
   cells_apart i k j m p q =
-      nat_eq_alike (cell_in (slots_in before i) k) (cell_in (slots_in before j) m) (cell_in (slots_in after i) k) (cell_in (slots_in after j) m)
+      nat_eq_alike (cell_in (slots_in first_side i) k) (cell_in (slots_in first_side j) m) (cell_in (slots_in second_side i) k) (cell_in (slots_in second_side j) m)
       (λ e. absurd (own_apart earlier b agree k q.j m (omega (arith, p.place)) p.within q.within (sym p.left ∙ e ∙ q.left)))
       (λ e. absurd (omega (arith, e, p.right, old_below j m q)))
 
   -- two places with own cells have the same cell only if they are the same place, on both sides
-  cells_own : (i k j m : ℕ) → IsOwn i k → IsOwn j m → is_one_cell before i k j m ≡ is_one_cell after i k j m
+  cells_own : (i k j m : ℕ) → IsOwn i k → IsOwn j m → is_one_cell first_side i k j m ≡ is_one_cell second_side i k j m
   cells_own i k j m p q =
-      nat_eq_alike (cell_in (slots_in before i) k) (cell_in (slots_in before j) m) (cell_in (slots_in after i) k) (cell_in (slots_in after j) m)
+      nat_eq_alike (cell_in (slots_in first_side i) k) (cell_in (slots_in first_side j) m) (cell_in (slots_in second_side i) k) (cell_in (slots_in second_side j) m)
       (λ e. let one = same_place b.slots b.slots once k m p.within q.within (sym p.left ∙ e ∙ q.left) in omega (arith, one, p.place, q.place, p.right, q.right))
       (λ e. let one : k ≡ m = omega (arith, e, p.place, q.place, p.right, q.right) in p.left ∙ ap (cell_in b.slots) one ∙ sym q.left)
 
   -- any two places have the same cell on one side exactly if they do on the other
-  cells_more : (i k j m : ℕ) → k < length (slots_in before i) → m < length (slots_in before j) → is_one_cell before i k j m ≡ is_one_cell after i k j m
+  cells_more : (i k j m : ℕ) → k < length (slots_in first_side i) → m < length (slots_in first_side j) → is_one_cell first_side i k j m ≡ is_one_cell second_side i k j m
   cells_more i k j m inside within =
-      let P = is_one_cell before i k j m ≡ is_one_cell after i k j m in
+      let P = is_one_cell first_side i k j m ≡ is_one_cell second_side i k j m in
       places i k P inside
       (λ p. places j m P within (cells_old i k j m p)
-      (λ q. nat_eq_symmetric (cell_in (slots_in before i) k) (cell_in (slots_in before j) m) ∙ cells_apart j m i k q p
-      ∙ nat_eq_symmetric (cell_in (slots_in after j) m) (cell_in (slots_in after i) k)))
+      (λ q. nat_eq_symmetric (cell_in (slots_in first_side i) k) (cell_in (slots_in first_side j) m) ∙ cells_apart j m i k q p
+      ∙ nat_eq_symmetric (cell_in (slots_in second_side j) m) (cell_in (slots_in second_side i) k)))
       (λ p. places j m P within (cells_apart i k j m p) (cells_own i k j m p))
 
   -- with b and its limb, both sides are still equal except for the numbers of cells
-  kept_more : IsRenumbered (forest_with before) (with_limb g l)
+  kept_more : IsRenumbered (forest_with first_side) (with_limb g l)
   kept_more = record { names = names_more; steps = steps_more; cells = cells_more }
 
 -- if the first branches of a forest and the forest g are equal except for the numbers of cells, so

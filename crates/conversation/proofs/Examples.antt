@@ -3,7 +3,7 @@ use Rattle.std.proofs.Common.{ℕ, zero, suc, ◌≡◌, ◌+◌, false, List, [
 use Rattle.conversation.specs.declared.fault.StreamFault.TheVariants.{Read, Memory}
 use Rattle.conversation.specs.Streams.{streams}
 use Rattle.conversation.specs.Scripts.{LineAnswering, RefusedMemory, lines_of, whole_lines, IsLineAnswer}
-use Rattle.conversation.specs.Conversations.{Answering, IsFront, WroteFront, IsAnswered, WentOut, EndsWithFault}
+use Rattle.conversation.specs.Conversations.{Answering, IsPrefix, WrotePrefix, IsAnswered, WentOut, EndsWithFault}
 
 abbrev first : List ℕ → ℕ
 first list = slice_index_or list 0 5
@@ -24,20 +24,20 @@ abbrev one_line : List ℕ
 one_line = 97 ∷ 10 ∷ []
 
 -- `a` is the front of `ab`
-IsFront-holds : IsFront (97 ∷ []) (97 ∷ 98 ∷ [])
-IsFront-holds = (98 ∷ [], refl)
+IsPrefix-holds : IsPrefix (97 ∷ []) (97 ∷ 98 ∷ [])
+IsPrefix-holds = (98 ∷ [], refl)
 
 -- `b` is not a front of `ab`
-IsFront-fails : IsFront (98 ∷ []) (97 ∷ 98 ∷ []) → ⊥
-IsFront-fails h = let e : 97 ≡ 98 = ap first h.1 in omega (arith, e)
+IsPrefix-fails : IsPrefix (98 ∷ []) (97 ∷ 98 ∷ []) → ⊥
+IsPrefix-fails h = let e : 97 ≡ 98 = ap first h.1 in omega (arith, e)
 
 -- the front `a` of `ab` was written, after what was there
-WroteFront-holds : WroteFront (Some (9 ∷ [])) (Some (9 ∷ 97 ∷ [])) (97 ∷ 98 ∷ [])
-WroteFront-holds = (97 ∷ [], (98 ∷ [], refl), refl)
+WrotePrefix-holds : WrotePrefix (Some (9 ∷ [])) (Some (9 ∷ 97 ∷ [])) (97 ∷ 98 ∷ [])
+WrotePrefix-holds = (97 ∷ [], (98 ∷ [], refl), refl)
 
 -- only the `b` of `ab` was written
-WroteFront-fails : WroteFront (Some (9 ∷ [])) (Some (9 ∷ 98 ∷ [])) (97 ∷ 98 ∷ []) → ⊥
-WroteFront-fails h =
+WrotePrefix-fails : WrotePrefix (Some (9 ∷ [])) (Some (9 ∷ 98 ∷ [])) (97 ∷ 98 ∷ []) → ⊥
+WrotePrefix-fails h =
     let front : 98 ∷ [] ≡ h.0 = ap (drop 1) h.2 in
     let e : 97 ≡ 98 = ap first (h.1.1 ∙ ap (λ front. front ++ h.1.0) (sym front)) in omega (arith, e)
 

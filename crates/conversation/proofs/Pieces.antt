@@ -7,7 +7,7 @@ use Rattle.conversation.specs.Scripts.{LineAnswering, answers_to, IsLineAnswer}
 use Rattle.std.specs.Prelude.{⊤, IfErr, OnOk, Result, Ok, Err}
 use Rattle.conversation.specs.declared.fault.StreamFault.{StreamFault}
 use Rattle.conversation.specs.Pieces.{HasAnswered, Reached, Finished}
-use Rattle.conversation.specs.Conversations.{Leaves, EndsWithFault, IsFront}
+use Rattle.conversation.specs.Conversations.{Leaves, EndsWithFault, IsPrefix}
 use Rattle.conversation.proofs.AnsweredLines.{HasAnsweredAll, answered_start, answered_whole, answered_first, answered_all, line_answer_append}
 use Rattle.std.proofs.KnownBytes.{Appends-nil, Appends-trans, Consumes-nil, Consumes-trans}
 use Rattle.conversation.specs.declared.limits.TheConstants.{KEPT_BYTES, MOST_SCRIPT_BYTES}
@@ -15,7 +15,7 @@ use Rattle.conversation.specs.declared.limits.TheConstants.{KEPT_BYTES, MOST_SCR
 consumes_kept : (a b c : Option (List ℕ)) (s : List ℕ) → Consumes a b s → Consumes b c [] → Consumes a c s
 consumes_kept a b c s h k = subst (Consumes a c) (append-nil s) (Consumes-trans a b c s [] h k)
 
-front_append : (text front out : List ℕ) → IsFront front out → IsFront (text ++ front) (text ++ out)
+front_append : (text front out : List ℕ) → IsPrefix front out → IsPrefix (text ++ front) (text ++ out)
 front_append text front out h = (h.0, ap (λ xs. text ++ xs) h.1 ∙ sym (append_assoc text front h.0))
 
 module _ {W : Type 0} (define : LineAnswering W) (start : W) where
@@ -96,7 +96,7 @@ module _ {W : Type 0} (define : LineAnswering W) (start : W) where
       }
 
       -- if a write failed, the writer took a prefix of the piece's answers
-      pub fault_write : (last : Option (List ℕ)) (front : List ℕ) → IsFront front out → Appends after.written last front → count + n ≤ MOST_SCRIPT_BYTES
+      pub fault_write : (last : Option (List ℕ)) (front : List ℕ) → IsPrefix front out → Appends after.written last front → count + n ≤ MOST_SCRIPT_BYTES
           → EndsWithFault (answers_to define start) Write before (streams next last)
       fault_write last front f w few =
           let h = front_append r.text front out f in
@@ -151,7 +151,7 @@ module _ {W : Type 0} (define : LineAnswering W) (start : W) where
       }
 
       -- if the last write failed, the writer took a prefix of the last answer
-      pub fault_last_write : (last : Option (List ℕ)) (front : List ℕ) → IsFront front out → Appends after.written last front → EndsWithFault (answers_to define start) Write before (streams after.unread last)
+      pub fault_last_write : (last : Option (List ℕ)) (front : List ℕ) → IsPrefix front out → Appends after.written last front → EndsWithFault (answers_to define start) Write before (streams after.unread last)
       fault_last_write last front f w =
           let h = front_append r.text front out f in
           record {

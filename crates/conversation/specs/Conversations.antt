@@ -13,12 +13,12 @@ abbrev pub Answering : Type 0
 Answering = List (List ℕ) → RefusedMemory → List ℕ
 
 -- `front` is a prefix of `all`
-abbrev pub IsFront : List ℕ → List ℕ → Type 0
-IsFront front all = (rest : List ℕ) × (all ≡ front ++ rest)
+abbrev pub IsPrefix : List ℕ → List ℕ → Type 0
+IsPrefix front all = (rest : List ℕ) × (all ≡ front ++ rest)
 
 -- a prefix of `bytes` was written, to a writer that had `before` and now has `after`
-abbrev pub WroteFront : Option (List ℕ) → Option (List ℕ) → List ℕ → Type 0
-WroteFront before after bytes = (front : List ℕ) × IsFront front bytes × Appends before after front
+abbrev pub WrotePrefix : Option (List ℕ) → Option (List ℕ) → List ℕ → Type 0
+WrotePrefix before after bytes = (front : List ℕ) × IsPrefix front bytes × Appends before after front
 
 -- A script of fewer than MOST_SCRIPT_BYTES bytes was read to its end, and the answers to all its
 -- lines were written. `before` and `after` are what the streams held before and after this.
@@ -44,7 +44,7 @@ abbrev pub WentOut : StreamFault → Answering → RefusedMemory → List ℕ �
 WentOut Read answering refused seen unread text = text ≡ answering (whole_lines seen) refused
 WentOut TooLong answering refused seen unread text = text ≡ answering (whole_lines seen) refused
 WentOut Write answering refused seen unread text =
-    IsFront text (answering (whole_lines seen) refused) ⊎ (IsAtEnd unread × IsFront text (answering (lines_of seen) refused))
+    IsPrefix text (answering (whole_lines seen) refused) ⊎ (IsAtEnd unread × IsPrefix text (answering (lines_of seen) refused))
 WentOut Memory answering refused seen unread text = (count : ℕ) × (text ≡ answering (take count (whole_lines seen)) refused)
 
 -- A conversation ended with this fault. At most MOST_SCRIPT_BYTES bytes, `seen`, were read, and

@@ -7,7 +7,7 @@ ghost use Rattle.conversation.specs.declared.limits.TheConstants.{KEPT_BYTES, MO
 ghost use Rattle.conversation.specs.Streams.{Streams, streams};
 ghost use Rattle.conversation.specs.Scripts.{answers_to, AnswersBy, IsLineAnswer};
 ghost use Rattle.conversation.specs.Pieces.{HasNoEnd, kept_with, AnswersFurther, Reached, PieceAnswered, Finished};
-ghost use Rattle.conversation.specs.Conversations.{Leaves, EndsWithFault, WroteFront};
+ghost use Rattle.conversation.specs.Conversations.{Leaves, EndsWithFault, WrotePrefix};
 ghost use Rattle.conversation.specs.Amounts.{MayEndBy, nothing};
 
 use crate::answers::Answers;
@@ -146,7 +146,7 @@ impl Conversation {
             (Appends (W.contents writer.old) (W.contents writer.new) self.old.out.items) }
         ensures out { OnOk result (self.new.out.items ≡ []) }
         ensures front { OnErr result
-            (WroteFront (W.contents writer.old) (W.contents writer.new) self.old.out.items) }
+            (WrotePrefix (W.contents writer.old) (W.contents writer.new) self.old.out.items) }
         ensures fault { IfErr result (λ e. e ≡ StreamFault.Write) }
     {
         if self.out.is_empty() {

@@ -2,7 +2,7 @@
 
 ghost use Rattle.std.specs.Prelude.{◌≡◌, OnErr, OnOk, IfErr};
 ghost use Rattle.std.specs.Io.KnownBytes.{Appends};
-ghost use Rattle.conversation.specs.Conversations.{WroteFront};
+ghost use Rattle.conversation.specs.Conversations.{WrotePrefix};
 
 use crate::fault::StreamFault;
 use std::io::Write;
@@ -13,7 +13,7 @@ pub fn write_whole<W: Write>(writer: &mut W, bytes: &[u8]) -> Result<(), StreamF
     ensures written { OnOk result
         (Appends (W.contents writer.old) (W.contents writer.new) bytes.now) }
     ensures front { OnErr result
-        (WroteFront (W.contents writer.old) (W.contents writer.new) bytes.now) }
+        (WrotePrefix (W.contents writer.old) (W.contents writer.new) bytes.now) }
     ensures fault { IfErr result (λ e. e ≡ StreamFault.Write) }
 {
     let mut rest = bytes;

@@ -4,6 +4,7 @@ use Rattle.std.specs.Prelude.{⊤}
 use Rattle.std.specs.Option.{option_map}
 use Rattle.frames.specs.Behaviour.{Behaviour}
 use Rattle.frames.specs.Configuration.{Configuration, replayed}
+use Rattle.frames.specs.laws.WithoutRegister.{register_kept}
 use Rattle.schedule_trie.specs.Forest.{step_of}
 use Rattle.schedule_trie.specs.Trie.{TrieOf, SegmentOf, segment, segment_at, slots_of, note_of, with_note, keys_in, has, Linked, IsNoted, IsCut}
 use Rattle.schedule_trie.specs.Climbs.{keys_up_to}
@@ -13,7 +14,7 @@ use Rattle.cutoff.specs.Fitting.{StoredRun, RunFits, KeepsRuns, IsChecked, IsOnW
 use Rattle.cutoff.specs.Links.{IsGiven, IsStored, IsStoredIn, IsLinked, run_checked}
 use Rattle.cutoff.specs.Prefixes.{HasTrueRun, RunsDown, RunsTo, RunsToOnAll, AreFresh, exit_or_start, exit_or}
 use Rattle.cutoff.specs.Charts.{Charted, IsCharted, StepsFit}
-use Rattle.cutoff.proofs.Fits.{register_kept, exit_same, stored-from_stored_in}
+use Rattle.cutoff.proofs.Fits.{exit_same, stored-from_stored_in}
 use Rattle.cutoff.proofs.Prefixes.{down_after}
 use Rattle.cutoff.proofs.SameBranches.{cut_kept}
 use Rattle.cutoff.proofs.Keys.{by_key}

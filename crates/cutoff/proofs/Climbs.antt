@@ -8,6 +8,7 @@ use Rattle.frames.specs.Behaviour.{Behaviour}
 use Rattle.frames.specs.Configuration.{Configuration, replayed}
 use Rattle.frames.specs.Equality.{SameConfiguration}
 use Rattle.frames.specs.Recorded.{without_register}
+use Rattle.frames.specs.laws.WithoutRegister.{register_kept, without_register_same, same_with_register, same_symm, same_trans}
 use Rattle.checkpoints.specs.Runs.{SegmentRun, IsTrueRun}
 use Rattle.std.proofs.lemmas.List.{length-append}
 use Rattle.schedule_trie.specs.Trie.{TrieOf, segment_at, note_of, keys_in, has, Once, IsCut}
@@ -19,7 +20,7 @@ use Rattle.cutoff.specs.Fitting.{StoredRun, steps_at}
 use Rattle.cutoff.specs.Links.{run_number, IsExitOf, IsStored, IsLinked}
 use Rattle.cutoff.specs.Plans.{FitsDownTo, FitsDown}
 use Rattle.cutoff.specs.Prefixes.{note_if_any, IsAbove}
-use Rattle.cutoff.proofs.Fits.{without_register_same, stored-from_stored_in, register_kept, same_symm, same_trans, same_with_register, exit_same, run_fits_from_fits, no_note_no_fit}
+use Rattle.cutoff.proofs.Fits.{stored-from_stored_in, exit_same, run_fits_from_fits, no_note_no_fit}
 use Rattle.cutoff.proofs.Keys.{lacks_cons, path_once}
 
 -- a run with the steps of the segment `key` fits it just if the runs above lead to the run's entry

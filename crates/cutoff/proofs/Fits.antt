@@ -1,56 +1,23 @@
--- Runs that fit, and configurations that are equal except for their registers.
-use Rattle.std.proofs.Common.{◌≡◌, ℕ, Bool, true, List, [], ◌∷◌, map, Option, Some, None, MatchOption, refl, sym, ap, subst, ◌∙◌}
+-- Runs that fit.
+use Rattle.std.proofs.Common.{◌≡◌, ℕ, Bool, true, List, map, Option, Some, None, MatchOption, sym, ap, subst, ◌∙◌}
 use Rattle.std.specs.Prelude.{⊤}
 use Rattle.std.specs.Option.{option_map}
 use Rattle.std.specs.Cmp.{IsPartialEquivalence}
 use Rattle.frames.specs.declared.types.Step.{Step}
 use Rattle.frames.specs.Behaviour.{Behaviour}
-use Rattle.frames.specs.Configuration.{Configuration, stepped, replayed}
+use Rattle.frames.specs.Configuration.{Configuration, replayed}
 use Rattle.frames.specs.Equality.{SameConfiguration}
-use Rattle.frames.specs.Recorded.{without_register}
+use Rattle.frames.specs.laws.WithoutRegister.{replayed_same, same_trans}
 use Rattle.checkpoints.specs.Runs.{SegmentRun, IsTrueRun}
 use Rattle.schedule_trie.specs.Forest.{step_of}
 use Rattle.schedule_trie.specs.Trie.{TrieOf, SegmentOf, segment_at, slots_of, note_of}
 use Rattle.cutoff.specs.Fitting.{StoredRun, bare_run, RunFits, Fits, steps_at, run_at}
 use Rattle.cutoff.specs.Links.{IsStored, IsStoredIn}
 
--- a replay keeps the register
-pub register_kept : {R P : Type 0} (b : Behaviour P) (c : Configuration R P) (steps : List Step) → (replayed b c steps).register ≡ c.register
-register_kept b c [] = refl
-register_kept b c (s ∷ steps) = register_kept b (stepped b c s) steps
-
--- what a replay makes of the rest doesn't depend on the register
-replayed_without_register : {R P : Type 0} (b : Behaviour P) (c : Configuration R P) (steps : List Step) → without_register (replayed b c steps) ≡ replayed b (without_register c) steps
-replayed_without_register b c [] = refl
-replayed_without_register b c (s ∷ steps) = replayed_without_register b (stepped b c s) steps
-
 module _ {R P : Type 0} (E : R → R → Bool) where
-  pub without_register_same : (a c : Configuration R P) → SameConfiguration E a c → without_register a ≡ without_register c
-  without_register_same a c e = λ i. record { register = tt; memory = e.memory i; running = e.running i; stopped = e.stopped i }
-
-  pub same_with_register : (a c : Configuration R P) → E a.register c.register ≡ true → without_register a ≡ without_register c → SameConfiguration E a c
-  same_with_register a c r e = record { register = r; memory = ap (λ d. d.memory) e; running = ap (λ d. d.running) e; stopped = ap (λ d. d.stopped) e }
-
-  pub replayed_same : (b : Behaviour P) (a c : Configuration R P) (steps : List Step) → SameConfiguration E a c → SameConfiguration E (replayed b a steps) (replayed b c steps)
-  replayed_same b a c steps e =
-      same_with_register (replayed b a steps) (replayed b c steps)
-      (subst (λ r. E r (replayed b c steps).register ≡ true) (sym (register_kept b a steps)) (subst (λ r. E a.register r ≡ true) (sym (register_kept b c steps)) e.register))
-      (replayed_without_register b a steps ∙ ap (λ d. replayed b d steps) (without_register_same a c e) ∙ sym (replayed_without_register b c steps))
-
   module _ (per : IsPartialEquivalence E) where
-    pub same_symm : (a c : Configuration R P) → SameConfiguration E a c → SameConfiguration E c a
-    same_symm a c e = record { register = per.symm c.register a.register ∙ e.register; memory = sym e.memory; running = sym e.running; stopped = sym e.stopped }
-
-    pub same_trans : (a c d : Configuration R P) → SameConfiguration E a c → SameConfiguration E c d → SameConfiguration E a d
-    same_trans a c d e f = record {
-      register = per.trans a.register c.register d.register e.register f.register;
-      memory = e.memory ∙ f.memory;
-      running = e.running ∙ f.running;
-      stopped = e.stopped ∙ f.stopped;
-    }
-
     pub run_fits_alike : (c d : Configuration R P) (segment : List Step) (run : SegmentRun R P) → SameConfiguration E c d → RunFits E c segment run → RunFits E d segment run
-    run_fits_alike c d segment run e f = record { steps = f.steps; entry = same_trans run.entry c d f.entry e }
+    run_fits_alike c d segment run e f = record { steps = f.steps; entry = same_trans E per run.entry c d f.entry e }
 
     pub fits_alike : (trie : TrieOf (StoredRun R P)) (c d : Configuration R P) (k : ℕ) → SameConfiguration E c d → Fits E trie c k → Fits E trie d k
     fits_alike trie c d k e = by (run_at trie k)
@@ -65,7 +32,7 @@ module _ {R P : Type 0} (E : R → R → Bool) where
   exit_same is alike b c segment run home true_run f =
       let same : is run.entry.register ≡ b = alike run.entry.register c.register f.entry.register ∙ home in
       let exit : run.exit ≡ replayed b run.entry segment = true_run.exit ∙ ap (λ x. replayed x run.entry run.steps) same ∙ ap (replayed b run.entry) f.steps in
-      subst (λ d. SameConfiguration E d (replayed b c segment)) (sym exit) (replayed_same b run.entry c segment f.entry)
+      subst (λ d. SameConfiguration E d (replayed b c segment)) (sym exit) (replayed_same E b run.entry c segment f.entry)
 
   -- if `IsStoredIn` holds of the segment k, `IsStored` holds of the run stored there
   module _ (h : R) (exits : List (Configuration ⊤ P)) (trie : TrieOf (StoredRun R P)) (k : ℕ) (s : StoredRun R P) where

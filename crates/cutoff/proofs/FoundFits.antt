@@ -7,6 +7,7 @@ use Rattle.std.proofs.lemmas.List.{map-append}
 use Rattle.frames.specs.Behaviour.{Behaviour}
 use Rattle.frames.specs.Configuration.{Configuration, replayed, fits_step}
 use Rattle.frames.specs.Recorded.{AllFit}
+use Rattle.frames.specs.laws.WithoutRegister.{same_symm}
 use Rattle.schedule_trie.specs.Forest.{step_of}
 use Rattle.schedule_trie.specs.Trie.{TrieOf, segment_at, slots_of, line, forest, keys_in, has, Once, IsCut}
 use Rattle.schedule_trie.specs.Climbs.{keys_up_to, keys_to, HasClimbedTo}
@@ -18,7 +19,7 @@ use Rattle.cutoff.specs.Fitting.{StoredRun, Fits, steps_at}
 use Rattle.cutoff.specs.Plans.{FitsDownTo, Descends, Planned, job_of, key_of, with_job}
 use Rattle.cutoff.specs.Prefixes.{HasTrueRun, RunsToOnAll, exit_or_start, IsAbove}
 use Rattle.cutoff.specs.FoundFits.{AreSeen, HasDescendedAbove, HasDescended, IsKnownAt, IsRightAt, IsUnseenPart, FitsOrAddsJob, found_fit_at}
-use Rattle.cutoff.proofs.Fits.{fits_alike, same_symm}
+use Rattle.cutoff.proofs.Fits.{fits_alike}
 use Rattle.cutoff.proofs.Paths.{fits_on}
 use Rattle.cutoff.proofs.Prefixes.{down_same, runs_fit, runs_to_next}
 use Rattle.cutoff.proofs.Lists.{all_left, all_right}

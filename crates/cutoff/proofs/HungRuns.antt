@@ -6,6 +6,7 @@ use Rattle.frames.specs.Behaviour.{Behaviour}
 use Rattle.frames.specs.Configuration.{Configuration, replayed}
 use Rattle.frames.specs.Equality.{SameConfiguration}
 use Rattle.frames.specs.Recorded.{without_register}
+use Rattle.frames.specs.laws.WithoutRegister.{register_kept}
 use Rattle.checkpoints.specs.Runs.{IsTrueRun}
 use Rattle.schedule_trie.specs.Forest.{step_of}
 use Rattle.schedule_trie.specs.Trie.{TrieOf, segment_at, slots_of, note_of, keys_in, has}
@@ -16,7 +17,7 @@ use Rattle.cutoff.specs.Fitting.{StoredRun, bare_run, RunFits, steps_at}
 use Rattle.cutoff.specs.Links.{IsLinked}
 use Rattle.cutoff.specs.Prefixes.{HasTrueRun, RunsDown, RunsHang, IsHung, exit_or_start, exit_or}
 use Rattle.cutoff.proofs.Climbs.{linked_entry, link_same, ends_same}
-use Rattle.cutoff.proofs.Fits.{register_kept, run_fits_alike, exit_same, stored-from_stored_in}
+use Rattle.cutoff.proofs.Fits.{run_fits_alike, exit_same, stored-from_stored_in}
 
 module _ {R P : Type 0} (E : R → R → Bool) (is : R → Behaviour P) (trie : TrieOf (StoredRun R P)) where
   -- nothing hangs between a key and itself

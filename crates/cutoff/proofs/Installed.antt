@@ -5,6 +5,7 @@ use Rattle.std.specs.Cmp.{IsPartialEquivalence}
 use Rattle.frames.specs.Behaviour.{Behaviour}
 use Rattle.frames.specs.Configuration.{Configuration, replayed}
 use Rattle.frames.specs.Recorded.{without_register}
+use Rattle.frames.specs.laws.WithoutRegister.{register_kept}
 use Rattle.checkpoints.specs.Runs.{SegmentRun, IsTrueRun}
 use Rattle.schedule_trie.specs.Forest.{step_of}
 use Rattle.schedule_trie.specs.Trie.{TrieOf, segment_at, note_of, keys_in, has, Once, IsCut, IsNoted}
@@ -15,7 +16,6 @@ use Rattle.cutoff.specs.Links.{IsLinked}
 use Rattle.cutoff.specs.Charts.{Charted, IsCharted}
 use Rattle.cutoff.specs.Plans.{FitsDown}
 use Rattle.cutoff.specs.Prefixes.{RunsDown, RunsTo, RunsToOnAll, RunsLeadTo, exit_or_start, exit_or}
-use Rattle.cutoff.proofs.Fits.{register_kept}
 use Rattle.cutoff.proofs.Links.{linked_none, new_linked}
 use Rattle.cutoff.proofs.SameBranches.{charted_kept, charted_marked}
 use Rattle.cutoff.proofs.FreshRuns.{fresh_given, fresh_kept}

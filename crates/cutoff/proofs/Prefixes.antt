@@ -6,6 +6,7 @@ use Rattle.frames.specs.Behaviour.{Behaviour}
 use Rattle.frames.specs.Configuration.{Configuration, replayed}
 use Rattle.frames.specs.Equality.{SameConfiguration}
 use Rattle.frames.specs.Recorded.{without_register}
+use Rattle.frames.specs.laws.WithoutRegister.{register_kept, same_trans}
 use Rattle.checkpoints.specs.Runs.{IsTrueRun}
 use Rattle.schedule_trie.specs.Trie.{TrieOf, segment_at, note_of, has, slots_of}
 use Rattle.schedule_trie.specs.Climbs.{keys_to, keys_up_to}
@@ -16,7 +17,7 @@ use Rattle.cutoff.specs.Fitting.{StoredRun, bare_run, RunFits, steps_at}
 use Rattle.cutoff.specs.Links.{run_number, IsLinkedAt}
 use Rattle.cutoff.specs.Prefixes.{HasTrueRun, RunsDown, RunsTo, RunsToOnAllWith, note_if_any, exit_or_start, exit_or}
 use Rattle.cutoff.specs.Plans.{FitsDownTo}
-use Rattle.cutoff.proofs.Fits.{register_kept, same_trans, exit_same, stored-from_stored_in, fits_from_run_fits}
+use Rattle.cutoff.proofs.Fits.{exit_same, stored-from_stored_in, fits_from_run_fits}
 use Rattle.cutoff.proofs.Links.{linked_equal}
 
 -- true runs that fit lead as far down after a change that keeps each segment's steps and true run

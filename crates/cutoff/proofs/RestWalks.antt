@@ -9,6 +9,7 @@ use Rattle.frames.specs.Behaviour.{Behaviour}
 use Rattle.frames.specs.Configuration.{Configuration, replayed}
 use Rattle.frames.specs.Equality.{SameConfiguration}
 use Rattle.frames.specs.Recorded.{AllFit}
+use Rattle.frames.specs.laws.WithoutRegister.{register_kept, same_symm}
 use Rattle.checkpoints.specs.Runs.{SegmentRun, IsTrueRun}
 use Rattle.schedule_trie.specs.Forest.{step_of}
 use Rattle.schedule_trie.specs.Trie.{TrieOf, SegmentOf, segment_at, slots_of, note_of, line, has, Once, keys_in, IsCut}
@@ -21,7 +22,7 @@ use Rattle.schedule_trie.proofs.edits.Pushes.{line-append}
 use Rattle.cutoff.specs.Fitting.{StoredRun, bare_run, RunPart, steps_at, run_at, reached}
 use Rattle.cutoff.specs.Settles.{ReplaysIfNeeded, IsSegmentSettled, Settles, EndsWith, SettlesTo}
 use Rattle.cutoff.specs.Prefixes.{RunsDown, RunsTo, RunsHang, EndsIn, IsRest, note_if_any, exit_or_start, exit_or}
-use Rattle.cutoff.proofs.Fits.{register_kept, same_symm, run_fits_alike, fits_from_run_fits, exit_same}
+use Rattle.cutoff.proofs.Fits.{run_fits_alike, fits_from_run_fits, exit_same}
 use Rattle.cutoff.proofs.HungRuns.{hang_kept, hang_down}
 use Rattle.cutoff.proofs.Prefixes.{down_same, down_more, down_kept}
 use Rattle.cutoff.proofs.Walks.{reached_none, IsWalking, walk_starts, walk_on, fits_here, exit_of, exit_of-last}

@@ -5,11 +5,12 @@ use Rattle.std.specs.Option.{option_map}
 use Rattle.frames.specs.Configuration.{Configuration}
 use Rattle.frames.specs.Equality.{SameConfiguration}
 use Rattle.frames.specs.Recorded.{without_register}
+use Rattle.frames.specs.laws.WithoutRegister.{without_register_same}
 use Rattle.schedule_trie.specs.Trie.{TrieOf, segment, segment_at, note_of, IsNoted}
 use Rattle.cutoff.specs.Fitting.{StoredRun, bare_run, RunFits, Fits, steps_at}
 use Rattle.cutoff.specs.Settles.{IsSegmentSettled}
 use Rattle.cutoff.specs.Links.{IsExitOf, IsGiven, IsStored, IsLinked}
-use Rattle.cutoff.proofs.Fits.{without_register_same, stored-from_stored_in, fits_from_run_fits}
+use Rattle.cutoff.proofs.Fits.{stored-from_stored_in, fits_from_run_fits}
 use Rattle.cutoff.proofs.Links.{taken_linked, new_linked}
 
 module _ {R P : Type 0} (E : R → R → Bool) (old new : TrieOf (StoredRun R P)) (c : Configuration R P) (k : ℕ) (s : StoredRun R P) (noted : IsNoted old new k (Some s)) where

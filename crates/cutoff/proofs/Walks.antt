@@ -12,12 +12,13 @@ use Rattle.frames.specs.Configuration.{Configuration, replayed, fits_step}
 use Rattle.frames.specs.Equality.{SameConfiguration}
 use Rattle.checkpoints.specs.Runs.{SegmentRun, IsTrueRun}
 use Rattle.frames.specs.Recorded.{AllFit}
+use Rattle.frames.specs.laws.WithoutRegister.{register_kept, same_symm}
 use Rattle.schedule_trie.specs.Forest.{step_of}
 use Rattle.schedule_trie.specs.Trie.{TrieOf, SegmentOf, segment_at, slots_of, note_of, line, has, Once, keys_in, IsNoted, IsCut}
 use Rattle.schedule_trie.proofs.lists.NoRepeats.{has-head, has-tail, Once-from_linked}
 use Rattle.cutoff.specs.Fitting.{StoredRun, RunPart, bare_run, RunFits, Fits, KeepsRuns, steps_at, slots_at, run_at, reached, counted, part_of}
 use Rattle.cutoff.specs.Settles.{ReplaysIfNeeded, IsSettledAt, IsSegmentSettled, Settles, GetsRun}
-use Rattle.cutoff.proofs.Fits.{register_kept, same_symm, run_fits_alike, fits_alike, exit_same}
+use Rattle.cutoff.proofs.Fits.{run_fits_alike, fits_alike, exit_same}
 use Rattle.cutoff.proofs.Lists.{all_left, all_right}
 use Rattle.cutoff.proofs.Keys.{by_key, lacks_cons}
 use Rattle.cutoff.proofs.Noted.{noted_run, noted_slots}

@@ -14,13 +14,12 @@ use Rattle.schedule_trie.specs.Trie.{TrieOf, forest}
 use Rattle.cutoff.specs.Fitting.{StoredRun, RunPart, RunFits, steps_at, reached, counted, part_of}
 use Rattle.cutoff.specs.Settles.{Settles, IsSettled}
 use Rattle.cutoff.specs.Charts.{Charted, keys_named}
-use Rattle.cutoff.proofs.Fits.{register_kept, without_register_same}
 use Rattle.pages.specs.declared.breakpoint.Break.{Break}
 use Rattle.pages.specs.Breaks.{is_met}
 use Rattle.frames.specs.Recorded.{LoneConfiguration, first_configuration, configuration_after, without_register}
+use Rattle.frames.specs.laws.WithoutRegister.{register_kept, replayed_alone, history_alone, without_register_same}
 use Rattle.views.specs.Looks.{steps_in}
 use Rattle.views.proofs.Spots.{steps_along, steps_along_more, steps_named}
-use Rattle.views.proofs.BehaviourAlone.{replayed_alone, history_alone}
 use Rattle.views.proofs.Replays.{replayed-append, history-append}
 use Rattle.sessions.specs.Seeks.{no_events, events_before, is_hit}
 use Rattle.sessions.specs.Walks.{ReportsPart, ReportsParts, is_on_bit, is_any_met_by_events}

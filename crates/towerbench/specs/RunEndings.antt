@@ -14,7 +14,7 @@ use Rattle.conversation.specs.declared.fault.StreamFault.{StreamFault}
 use Rattle.conversation.specs.Streams.{Streams}
 use Rattle.towerbench.specs.StreamFaults.{fault_of_stream}
 use Rattle.conversation.specs.Scripts.{lines_of}
-use Rattle.conversation.specs.Conversations.{IsAnswered, EndsWithFault, WroteFront}
+use Rattle.conversation.specs.Conversations.{IsAnswered, EndsWithFault, WrotePrefix}
 use Rattle.towerbench.specs.declared.fault.Fault.{Fault}
 use Rattle.towerbench.specs.declared.fault.Fault.TheVariants as fault
 use Rattle.towerbench.specs.BenchSources.{opened_bench, IsUnopened}
@@ -109,7 +109,7 @@ RanSaving file limits before after kept saved = (bytes : List ℕ) × RanLeaving
 abbrev pub RanSavingInto : Option (List ℕ) → Limits → Streams → Streams → Option (List ℕ) → Option (List ℕ) → Fault → Type 0
 RanSavingInto file limits before after kept saved e =
     (RanInto true file limits before after e × (saved ≡ kept))
-    ⊎ ((e ≡ fault.Save) × ((bytes : List ℕ) × RanLeaving file limits bytes before after × WroteFront kept saved bytes))
+    ⊎ ((e ≡ fault.Save) × ((bytes : List ℕ) × RanLeaving file limits bytes before after × WrotePrefix kept saved bytes))
 
 -- whether the branches that a run of the program left are to be reported
 abbrev pub reports_branches : Reporting → Bool

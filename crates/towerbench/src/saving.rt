@@ -3,7 +3,7 @@
 ghost use Rattle.std.specs.Prelude.{◌≡◌, OnOk, OnErr, IfErr};
 ghost use Rattle.std.specs.Option.{option_map};
 ghost use Rattle.std.specs.Io.KnownBytes.{Appends};
-ghost use Rattle.conversation.specs.Conversations.{WroteFront};
+ghost use Rattle.conversation.specs.Conversations.{WrotePrefix};
 ghost use Rattle.conversation.specs.Streams.{streams};
 ghost use Rattle.command_line.specs.Ranges.{AreOptionsInRange, limits_of};
 ghost use Rattle.towerbench.specs.RunEndings.{RanSaving, RanSavingInto};
@@ -70,7 +70,7 @@ fn save<S: Write>(saver: &mut S, bytes: &[u8]) -> Result<(), Fault>
     ensures written { OnOk result
         (Appends (S.contents saver.old) (S.contents saver.new) bytes.now) }
     ensures front { OnErr result
-        (WroteFront (S.contents saver.old) (S.contents saver.new) bytes.now) }
+        (WrotePrefix (S.contents saver.old) (S.contents saver.new) bytes.now) }
     ensures fault { IfErr result (λ e. e ≡ Fault.Save) }
 {
     match write_whole(saver, bytes) {

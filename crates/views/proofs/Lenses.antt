@@ -8,8 +8,8 @@ use Rattle.std.proofs.lemmas.List.{take-append-drop, take-take}
 use Rattle.frames.specs.Behaviour.{Behaviour}
 use Rattle.frames.specs.Configuration.{Configuration, replayed}
 use Rattle.frames.specs.Recorded.{without_register}
+use Rattle.frames.specs.laws.WithoutRegister.{register_kept, replayed_alone, without_register_same}
 use Rattle.cutoff.specs.Fitting.{RunPart}
-use Rattle.cutoff.proofs.Fits.{register_kept, without_register_same}
 use Rattle.checkpoints.specs.Runs.{SegmentRun}
 use Rattle.lru.specs.LruCache.{LruCache, lru_cache, promoted, put_entries}
 use Rattle.lru.proofs.CallerLemmas.{Contains-lookup, Contains-promoted, Contains-put_entries}
@@ -20,7 +20,7 @@ use Rattle.views.specs.Lenses.{MatchTheirKeys, IsLens}
 use Rattle.pages.specs.Pages.{config_page}
 use Rattle.views.specs.Spots.{IsAlike, part_end}
 use Rattle.views.specs.laws.PlaceLaws.{SamePlace, same_place, place_decides}
-use Rattle.views.proofs.BehaviourAlone.{replayed_alone, page_alone}
+use Rattle.views.proofs.PageAlone.{page_alone}
 use Rattle.views.proofs.Replays.{replayed-append}
 
 module _ {R P : Type 0} (is : R → Behaviour P) where

@@ -1,4 +1,4 @@
-pub mod BehaviourAlone
+pub mod PageAlone
 pub mod Replays
 pub mod Lenses
 pub mod Spots

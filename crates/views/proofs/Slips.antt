@@ -22,7 +22,7 @@ use Rattle.pages.specs.Strays.{Judges, JudgesFrom}
 use Rattle.views.specs.RunPages.{last_page, runs_page, content_page, config_content}
 use Rattle.views.specs.ChartLooks.{config_page_in, events_page_in}
 use Rattle.views.specs.Looks.{steps_in}
-use Rattle.views.proofs.BehaviourAlone.{page_alone}
+use Rattle.views.proofs.PageAlone.{page_alone}
 use Rattle.views.proofs.Spots.{spot_of}
 use Rattle.views.proofs.Strays.{events_page_judges, branch_steps_fit}
 

@@ -18,11 +18,10 @@ use Rattle.schedule_trie.proofs.branches.Lines.{slots_in_on}
 use Rattle.cutoff.specs.Fitting.{StoredRun, RunPart, RunFits, steps_at, reached, counted, part_of}
 use Rattle.cutoff.specs.Settles.{Settles, IsSettled}
 use Rattle.cutoff.specs.Charts.{Charted, keys_named}
-use Rattle.cutoff.proofs.Fits.{register_kept, replayed_same, without_register_same}
 use Rattle.frames.specs.Recorded.{first_configuration, without_register}
+use Rattle.frames.specs.laws.WithoutRegister.{register_kept, replayed_alone, history_alone, without_register_same, replayed_same, history_same}
 use Rattle.views.specs.Spots.{part_end, part_events, parts_end, parts_events, IsSpotOf}
 use Rattle.views.specs.Looks.{steps_in}
-use Rattle.views.proofs.BehaviourAlone.{replayed_alone, history_alone, history_same}
 use Rattle.views.proofs.Replays.{replayed-append, history-append, history-take}
 
 -- the steps of the segments with these keys, one segment after the other
@@ -61,7 +60,7 @@ module _ {R P : Type 0} (E : R → R → Bool) (equal : IsEquivalence E) (is : R
     part_events_are : part_events is part ≡ history b c (take n (steps_at old k))
     part_events_are =
         ap (λ x. history x part.run.entry (take part.count part.run.steps)) own_behaviour ∙ ap (history b part.run.entry) counted_steps
-        ∙ history_same b E part.run.entry c (take n (steps_at old k)) fits.entry
+        ∙ history_same E b part.run.entry c (take n (steps_at old k)) fits.entry
 
   none_reached : (c : Configuration R P) (place : ℕ) (ks : List ℕ) (parts : List (RunPart R P)) (n : ℕ) → place ≡ 0
       → Settles E b old new c place (reached old place ks) parts n → parts ≡ []

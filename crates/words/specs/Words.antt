@@ -1,4 +1,5 @@
--- The parts of a text, which are its pieces between separators: a file's lines, or a line's words.
+-- The parts of a text, which are its pieces between separators: a file's lines, or a line's words. And
+-- the text of a word with numbers.
 use Rattle.std.specs.Prelude.{ℕ, List, [], ◌∷◌, ◌++◌, decimal, Option, Some, None, Bool, true, false, ◌==◌}
 use Rattle.std.specs.List.{flat_map, slice_split}
 

@@ -1,5 +1,5 @@
 -- Equality of states is an equivalence, and equal states move alike.
-use Rattle.std.proofs.Common.{◌≡◌, ℕ, ◌/◌, ◌%◌, Bool, true, false, List, Option, None, Some, refl, sym, ap, subst, ◌∙◌, if◌then◌else◌, nat_eq}
+use Rattle.std.proofs.Common.{◌≡◌, ℕ, ◌/◌, ◌%◌, Bool, true, false, List, [], ◌∷◌, Option, None, Some, refl, ap, subst, if◌then◌else◌, nat_eq}
 use mathlib.Core.Bool.{◌&&◌}
 use Rattle.std.specs.Bool.{Decides}
 use Rattle.std.specs.Cmp.{IsPartialEquivalence, IsEquivalence, equiv, partial_equiv_from_equiv, on_per, and_per}
@@ -18,8 +18,8 @@ use Rattle.frames.specs.declared.types.Outcome.TheVariants.{Value, Written, Spen
 use Rattle.frames.specs.declared.types.Step.{Step}
 use Rattle.frames.specs.Behaviour.{Behaviour}
 use Rattle.frames.specs.Configuration.{Configuration, fits_step, is_enabled, stepped}
-use Rattle.frames.specs.Recorded.{LoneConfiguration, without_register}
 use Rattle.frames.specs.Equality.{configuration_eq, configuration_per, configuration_decides, SameConfiguration}
+use Rattle.frames.specs.laws.WithoutRegister.{without_register_same, replayed_same}
 use Rattle.std.proofs.lemmas.Bool.Decides.{Decides-eqb}
 use Rattle.answers.specs.declared.question.Question.{Question}
 use Rattle.answers.specs.States.{StateOf, moved, moved_if, advanced, step_by}
@@ -62,10 +62,6 @@ pub record SameState {R P : Type 0} (E : R → R → Bool) (a b : StateOf R P) :
   pub answers : a.answers ≡ b.answers
   pub configuration : SameConfiguration E a.configuration b.configuration
 
--- a step acts alike without the register
-stepped_alone : {R P : Type 0} (b : Behaviour P) (c : Configuration R P) (s : Step) → without_register (stepped b c s) ≡ stepped b (without_register c) s
-stepped_alone b c s = refl
-
 module _ {R P : Type 0} (E : R → R → Bool) (F : P → P → Bool) where
   -- whether two states are equal; E compares registers, and F points of pending operations
   abbrev pub state_eq : StateOf R P → StateOf R P → Bool
@@ -90,26 +86,20 @@ module _ {R P : Type 0} (E : R → R → Bool) (F : P → P → Bool) where
     pub state_equivalence : IsEquivalence E → IsEquivalence state_eq
     state_equivalence e = equiv (state_per (partial_equiv_from_equiv e)) (λ a. (state_decides a a).1 (same_itself e a))
 
-    -- equal configurations without their registers are the same
-    same_alone : {x y : Configuration R P} → SameConfiguration E x y → without_register x ≡ without_register y
-    same_alone e i = record { register = tt; memory = e.memory i; running = e.running i; stopped = e.stopped i }
-
     -- equal configurations, and then states, are equal after the same step
     stepped_same : (b : Behaviour P) (a c : Configuration R P) (s : Step) → SameConfiguration E a c → SameConfiguration E (stepped b a s) (stepped b c s)
-    stepped_same b a c s e =
-        let both : without_register (stepped b a s) ≡ without_register (stepped b c s) = stepped_alone b a s ∙ (ap (λ (n : LoneConfiguration P). stepped b n s) (same_alone e) ∙ sym (stepped_alone b c s)) in
-        record { register = e.register; memory = ap (λ n. n.memory) both; running = ap (λ n. n.running) both; stopped = ap (λ n. n.stopped) both }
+    stepped_same b a c s e = replayed_same E b a c (s ∷ []) e
 
     advanced_same : (b : Behaviour P) (x y : StateOf R P) (s : Step) → SameState E x y → SameState E (advanced b x s) (advanced b y s)
     advanced_same b x y s e = record {
-      answers = λ i. (advanced b (record { configuration = same_alone e.configuration i; answers = e.answers i }) s).answers;
+      answers = λ i. (advanced b (record { configuration = without_register_same E x.configuration y.configuration e.configuration i; answers = e.answers i }) s).answers;
       configuration = stepped_same b x.configuration y.configuration s e.configuration;
     }
 
     -- the same steps fit equal states and are enabled
     enabled_same : (b : Behaviour P) (x y : StateOf R P) (s : Step) → SameState E x y
         → (fits_step b s && is_enabled x.configuration s) ≡ (fits_step b s && is_enabled y.configuration s)
-    enabled_same b x y s e i = fits_step b s && is_enabled (same_alone e.configuration i) s
+    enabled_same b x y s e i = fits_step b s && is_enabled (without_register_same E x.configuration y.configuration e.configuration i) s
 
     module _ (is : R → Behaviour P) (alike : (r s : R) → E r s ≡ true → is r ≡ is s) where
       -- `moved_alike`, by whether the step fits and is enabled; and by the step

@@ -2,7 +2,7 @@ use Rattle.std.proofs.Common.{◌≡◌, ◌∙◌, ◌+◌, sym, ap, subst, ari
 use Rattle.std.proofs.lemmas.List.{get_or_default}
 use Rattle.frames.specs.declared.types.Step.TheVariants.{Write}
 use Rattle.frames.specs.Configuration.{events_of, fits_step, replayed, stepped}
-use Rattle.cutoff.proofs.Fits.{register_kept}
+use Rattle.frames.specs.laws.WithoutRegister.{register_kept}
 use Rattle.pages.specs.Breaks.{is_met}
 use Rattle.sessions.specs.Seeks.{next_place, places_with}
 use Rattle.sessions.proofs.Runs.{replayed_next, events_next}

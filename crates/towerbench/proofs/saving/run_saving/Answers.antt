@@ -7,7 +7,7 @@ use Rattle.branch_terms.specs.declared.limits.Limits.{Limits}
 use Rattle.tower_file.specs.Benches.{Bench}
 use Rattle.tower_file.specs.Parsed.{as_bench}
 use Rattle.conversation.specs.Streams.{Streams}
-use Rattle.conversation.specs.Conversations.{WroteFront}
+use Rattle.conversation.specs.Conversations.{WrotePrefix}
 use Rattle.towerbench.specs.declared.fault.Fault.{Fault}
 use Rattle.towerbench.specs.declared.fault.Fault.TheVariants.{Save}
 use Rattle.towerbench.specs.BenchSources.{opened_bench}
@@ -21,7 +21,7 @@ ran_leaving file limits b bytes before after is h = record { bench = b; left = h
 
 -- if writing to the saver failed, the saver took a prefix of the bytes, as `RanSavingInto` says
 ran_saving_into : (r : Result ⊤ Fault) (file : Option (List ℕ)) (limits : Limits) (before after : Streams) (kept saved : Option (List ℕ)) (bytes : List ℕ)
-    → RanLeaving file limits bytes before after → OnErr r (WroteFront kept saved bytes) → IfErr r (λ e. e ≡ Save) → IfErr r (RanSavingInto file limits before after kept saved)
+    → RanLeaving file limits bytes before after → OnErr r (WrotePrefix kept saved bytes) → IfErr r (λ e. e ≡ Save) → IfErr r (RanSavingInto file limits before after kept saved)
 ran_saving_into (Ok done) file limits before after kept saved bytes leaving front is = tt
 ran_saving_into (Err e) file limits before after kept saved bytes leaving front is = inr (is, (bytes, leaving, front))
 
