@@ -139,18 +139,18 @@ fn hung_from<'a, R: Register>(trie: &'a Trie<Stored<R>>, known: &Known, key: Seg
     // for the proof: by its contract, the run is a replay of its steps
     let _entry = stored.entry();
     let is_any = known.is_any();
+    let Some(next) = above else {
+        return top_of(key, stored);
+    };
     let mut reached = key;
     let mut lower = stored;
-    let mut at = above;
+    let mut next = next;
     // a branch has at most one segment for each cell ever made
     for _ in 0..trie.made() {
         if may_stop(known, is_any, reached, lower) {
             break;
         }
-        let Some(key) = at else {
-            break;
-        };
-        let (note, above) = trie.step_up_from(key);
+        let (note, above) = trie.step_up_from(next);
         let Some(stored) = note else {
             break;
         };
@@ -159,14 +159,30 @@ fn hung_from<'a, R: Register>(trie: &'a Trie<Stored<R>>, known: &Known, key: Seg
         }
         // for the proof: by its contract, the run is a replay of its steps
         let _entry = stored.entry();
-        reached = key;
+        let Some(up) = above else {
+            return top_of(next, stored);
+        };
+        reached = next;
         lower = stored;
-        at = above;
+        next = up;
     }
     Top {
         key: reached,
         stored: Some(lower),
-        above: at,
+        above: Some(next),
+    }
+}
+
+/// The end of a climb at the first segment of its branches, which has a run.
+fn top_of<'a, R: Register>(key: SegKey, stored: &'a Stored<R>) -> Top<'a, R>
+    ensures key { result.key ≡ key }
+    ensures stored { option_copied result.stored ≡ Some stored.now }
+    ensures above { result.above ≡ None }
+{
+    Top {
+        key,
+        stored: Some(stored),
+        above: None,
     }
 }
 

@@ -11,8 +11,8 @@ invariant-loop g l =
     let is = g.R.Behaves.behaviour in
     let keys = keys_in l.trie.branches in
     record {
-      up : (i : ℕ) → has l.fn.key (keys i) ≡ true → IsStepUp (keys i) l.reached l.at;
+      up : (i : ℕ) → has l.fn.key (keys i) ≡ true → IsStepUp (keys i) l.reached (Some l.next);
       hung : (i : ℕ) → has l.fn.key (keys i) ≡ true → IsHung E is l.trie l.reached l.fn.key i;
-      top : IsTop l.trie l.reached (Some l.lower) l.at;
+      top : IsTop l.trie l.reached (Some l.lower) (Some l.next);
       stored : HasLinked E is l.trie l.reached l.lower.link;
     }
