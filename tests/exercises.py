@@ -15,7 +15,7 @@ import subprocess
 import tempfile
 import threading
 
-import quotes
+import lesson_texts
 from pages import build
 from trials import Test
 
@@ -43,7 +43,7 @@ def attempts():
         elif attempt:
             its.append((attempt[1] == "right", attempt[2], []))
         else:
-            its[-1][2].extend(quotes.written_out(line.strip()))
+            its[-1][2].extend(lesson_texts.written_out(line.strip()))
     return found
 
 
@@ -57,7 +57,7 @@ def scripts():
     """Returns the names of the scripts of lessons that have a goal or a question."""
     found = sorted(
         f"lessons/{folder}/{it[:-len('.script')]}"
-        for folder in quotes.lessons()
+        for folder in lesson_texts.lessons()
         for it in os.listdir(f"{TOP}/lessons/{folder}")
         if it.endswith(".script")
     )
@@ -137,5 +137,5 @@ def tests(program):
     its = AllJudged(program)
     return [
         Test(f"exercises of lessons/{it}", functools.partial(its.fault_of, it))
-        for it in quotes.lessons()
+        for it in lesson_texts.lessons()
     ]

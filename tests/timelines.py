@@ -24,7 +24,7 @@ import os
 import re
 
 import cases
-import quotes
+import lesson_texts
 from pages.layer_reader import Inside, Tower
 
 # The session whose looks come after the script; pages take any number.
@@ -195,7 +195,7 @@ def fault_of_block(program, folder, words, lines):
 def fault_of(path, program):
     """Returns what is wrong with the time lines of a text, or nothing."""
     folder = os.path.dirname(path)
-    text, blocks = quotes.text_and_marked_blocks(quotes.TOP / path)
+    text, blocks = lesson_texts.text_and_marked_blocks(lesson_texts.TOP / path)
     timelines = [
         (mark.split()[1:], lines) for mark, lines in blocks if mark.split()[:1] == ["timeline"]
     ]

@@ -164,7 +164,7 @@ def index_faults():
         yield f"its links aren't, in order: {' '.join(lessons())}"
 
 
-def lesson_texts():
+def paths():
     """Returns the paths of the texts, from the top."""
     found = [INDEX, *(LESSONS / it / "README.md" for it in lessons())]
     return [str(it.relative_to(TOP)) for it in found]

@@ -71,7 +71,7 @@ def outputs():
     return "\n".join(found)
 
 
-def guide_files():
+def paths():
     return sorted(glob.glob(GUIDE))
 
 
@@ -82,5 +82,5 @@ def fault_of(path, expected):
 
 
 if __name__ == "__main__":
-    for it in guide_files():
+    for it in paths():
         print(f"{it}: {len(texts_of(read(it)))} texts; {fault_of(it, outputs())}")
